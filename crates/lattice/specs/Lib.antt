@@ -1,0 +1,5 @@
+pub mod Words
+pub mod Faults
+pub mod Checking
+pub mod Heard
+pub mod Typed
