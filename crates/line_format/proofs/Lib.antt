@@ -1,0 +1,10 @@
+pub mod Answering
+pub mod Deciding
+pub mod Fields
+pub mod Gathering
+pub mod Numbers
+pub mod Pieces
+pub mod Splitting
+pub mod TextLines
+pub mod WrittenLines
+pub mod WrittenTexts

@@ -1,0 +1,5 @@
+pub mod Lines
+pub mod Split
+pub mod Faults
+pub mod Writing
+pub mod Reading
