@@ -1,3 +1,2 @@
-pub mod Checking
 pub mod LargestEnd
 pub mod TypedWords

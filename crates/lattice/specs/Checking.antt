@@ -1,12 +1,12 @@
 -- Which words are refused, by which number, and in which order that is tested. Assumes nothing.
-use mathlib.Core.List.{List, [], _∷_}
+use mathlib.Core.List.{List}
 use mathlib.Core.Bool.{true, false}
-use Prim.Native.Nat.{ℕ, suc}
+use Prim.Native.Nat.{ℕ}
 use lib.Dec.{leb}
 use lib.ListN.{length}
-use Rattle.std.specs.Options.{mapped, orOther}
 use Rattle.std.specs.declared.option.Option.{Option}
 use Rattle.std.specs.declared.option.Option.the-variants.{Some, None}
+use Rattle.records.specs.Lists.{list-refusal}
 use Rattle.lattice.specs.declared.word.Word.{Word}
 use Rattle.lattice.specs.Words.{forward, greatest-node, most-words}
 
@@ -18,18 +18,9 @@ word-refusal w =
       | true ↦ elim (leb (w .to) greatest-node) [ false ↦ Some 2 | true ↦ None ]
     ]
 
--- the same for word number n of a list, with that number
-abbrev pub refusal-at : ℕ → Word → Option (ℕ × Option ℕ)
-refusal-at n w = mapped (λ number. (number, Some n)) (word-refusal w)
-
--- the refusal of the first word that has one, where the words are counted from n
-abbrev pub first-refusal : ℕ → List Word → Option (ℕ × Option ℕ)
-first-refusal n [] = None
-first-refusal n (w ∷ ws) = orOther (refusal-at n w) (first-refusal (suc n) ws)
-
--- 3 for too many words, before any word is looked at
+-- 3 for too many words, before any word is looked at; else the refusal of the first word that has one, and its place
 abbrev pub words-refusal : List Word → Option (ℕ × Option ℕ)
-words-refusal ws = elim (leb (length ws) most-words) [ false ↦ Some (3, None) | true ↦ first-refusal 0 ws ]
+words-refusal ws = list-refusal most-words 3 word-refusal ws
 
 -- 4 for a typed line with more bytes than the greatest node
 abbrev pub typed-refusal : List ℕ → Option ℕ

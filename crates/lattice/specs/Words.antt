@@ -1,10 +1,11 @@
 -- What every word lattice keeps to. Assumes nothing.
 use mathlib.Core.Path.{_≡_}
-use mathlib.Core.List.{List, [], _∷_}
+use mathlib.Core.List.{List}
 use mathlib.Core.Bool.{Bool, true, _&&_}
 use Prim.Native.Nat.{ℕ, _^_, _≤_}
 use lib.Dec.{ltb, leb}
 use lib.ListN.{length}
+use Rattle.records.specs.Lists.{every}
 use Rattle.lattice.specs.declared.word.Word.{Word}
 
 -- nodes are numbered from 0 to this one at most
@@ -23,8 +24,7 @@ abbrev pub word-within : ℕ → Word → Bool
 word-within last w = forward (w .from) (w .to) && (leb (w .to) last && ltb (w .mark) (2 ^ 16))
 
 abbrev pub words-within : ℕ → List Word → Bool
-words-within last [] = true
-words-within last (w ∷ ws) = word-within last w && words-within last ws
+words-within last ws = every (word-within last) ws
 
 -- a last node and words that make a lattice
 pub record Limits (last : ℕ) (words : List Word) : Type 0 where

@@ -1,30 +1,38 @@
 // Words that were checked: a lattice can be made of them without a refusal.
-ghost use Prim.Native.Nat.{_≤_, _<_, _^_};
+ghost use Prim.Native.Nat.{_≤_};
 ghost use mathlib.Core.Path.{_≡_};
 ghost use mathlib.Core.Bool.{true};
 ghost use mathlib.Core.List.{[]};
 ghost use lib.ListN.{length};
 ghost use Rattle.std.specs.Options.{mapped};
 ghost use Rattle.std.specs.Results.{errPart};
-ghost use Rattle.std.specs.Vec.{made};
 ghost use Rattle.std.specs.declared.result.Result.the-variants.{Ok, Err};
-ghost use Rattle.lattice.specs.Words.{greatest-node, most-words, words-within, word-within};
+ghost use Rattle.lattice.specs.Words.{greatest-node, most-words, word-within, words-within};
 ghost use Rattle.lattice.specs.Faults.{word-number, told};
-ghost use Rattle.lattice.specs.Checking.{word-refusal, refusal-at, words-refusal};
+ghost use Rattle.lattice.specs.Checking.{word-refusal, words-refusal};
 use crate::fault::LatticeFault;
+use crate::fault::LatticeFaultFromWord;
 use crate::fault::WordFault;
 use crate::word::Word;
+use records::Record;
+use records::check_records;
 
+// No lattice has more words than this.
 const MOST_WORDS: usize = 128;
 
+// No lattice has a node past this one.
 pub(crate) const GREATEST_NODE: u8 = 31;
 
-impl Word {
-    // Whether the word may stand in a lattice.
-    pub fn check(self) -> Result<(), WordFault>
-        ensures refused { λ r. ⌜ mapped word-number (errPart r) ≡ word-refusal self ⌝ }
-        ensures accepted { λ r. ⌜ made r (λ _. word-within greatest-node self ≡ true) ⌝ }
-    {
+pub impl Record for Word as WordRecord {
+    type Fault = WordFault;
+
+    ghost number = { word-number };
+
+    ghost refusal = { word-refusal };
+
+    ghost within = { word-within greatest-node };
+
+    fn check(self) -> Result<(), WordFault> {
         if self.from >= self.to {
             return Err(WordFault::NotForward);
         }
@@ -33,31 +41,6 @@ impl Word {
         }
         Ok(())
     }
-}
-
-// The check of one word of a list, whose fault tells where it stands.
-fn check_at(at: usize, word: Word) -> Result<(), LatticeFault>
-    ensures refused { λ r. ⌜ mapped told (errPart r) ≡ refusal-at at word ⌝ }
-    ensures accepted { λ r. ⌜ made r (λ _. word-within greatest-node word ≡ true) ⌝ }
-{
-    match word.check() {
-        Ok(()) => Ok(()),
-        Err(fault) => Err(LatticeFault::Word { at, fault }),
-    }
-}
-
-// The check of a list of words.
-fn check_all(words: &[Word]) -> Result<(), LatticeFault>
-    ensures refused { λ r. ⌜ mapped told (errPart r) ≡ words-refusal (now (words .entry)) ⌝ }
-    ensures accepted { λ r. ⌜ made r (λ _. (length (now (words .entry)) ≤ most-words) × (words-within greatest-node (now (words .entry)) ≡ true)) ⌝ }
-{
-    if words.len() > MOST_WORDS {
-        return Err(LatticeFault::TooManyWords);
-    }
-    for (at, word) in words.iter().enumerate() {
-        check_at(at, *word)?;
-    }
-    Ok(())
 }
 
 // Words that were checked.
@@ -81,7 +64,10 @@ impl<'a> CheckedWords<'a> {
         ensures refused { λ r. ⌜ mapped told (errPart r) ≡ words-refusal (now (words .entry)) ⌝ }
         ensures words { λ r. ⌜ now (now (self .exit) .words) ≡ elim r [ Ok _ ↦ now (words .entry) | Err _ ↦ now (now (self .entry) .words) ] ⌝ }
     {
-        check_all(words)?;
+        if words.len() > MOST_WORDS {
+            return Err(LatticeFault::TooManyWords);
+        }
+        check_records(words)?;
         self.words = words;
         Ok(())
     }

@@ -1,6 +1,8 @@
 // What is wrong with words that make no lattice. Each refusal has its number from one definition.
 ghost use mathlib.Core.Path.{_≡_};
+ghost use Rattle.lattice.specs.declared.fault.LatticeFault.the-variants.{Word};
 ghost use Rattle.lattice.specs.Faults.{word-number, told, typed-number};
+use records::placed::Placed;
 
 // What is wrong with one word.
 #[derive(Clone, Copy, PartialEq, Eq, Debug)]
@@ -36,6 +38,17 @@ impl LatticeFault {
         match self {
             LatticeFault::TooManyWords => 3,
             LatticeFault::Word { fault, .. } => fault.number(),
+        }
+    }
+}
+
+pub impl From<Placed<WordFault>> for LatticeFault as LatticeFaultFromWord {
+    ghost converts = { λ p r. r ≡ Word (p .at) (p .fault) };
+
+    fn from(placed: Placed<WordFault>) -> LatticeFault {
+        LatticeFault::Word {
+            at: placed.at,
+            fault: placed.fault,
         }
     }
 }

@@ -1,6 +1,7 @@
 // Words and typed lines at their limits.
 use super::*;
 use crate::checked::CheckedWords;
+use crate::checked::WordRecord;
 use crate::fault::*;
 use crate::heard::HeardLattice;
 use crate::heard::HeardLatticeLattice;
@@ -8,6 +9,7 @@ use crate::typed::TypedLine;
 use crate::typed::TypedLineLattice;
 use crate::word::WordDebug;
 use crate::word::WordPartialEq;
+use records::Record;
 use std::test::*;
 
 fn word(from: u8, to: u8) -> Word {
