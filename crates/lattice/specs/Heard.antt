@@ -3,36 +3,30 @@ use mathlib.Core.Path.{_≡_}
 use mathlib.Core.List.{List, [], _∷_}
 use mathlib.Core.Bool.{true, _&&_}
 use Prim.Native.Nat.{ℕ, max, _≤_, _^_}
-use native.Mathlib.Nat.{le-max-left, le-max-right}
 use native.Mathlib.Omega.{arith}
 use lib.Dec.{leb, ltb}
 use lib.ListN.{length}
-use Rattle.std.proofs.shelf.Tests.{and-parts, and-from, leb-true, le-leb}
+use Rattle.std.proofs.shelf.Tests.{and-parts, and-from, le-leb, lt-ltb}
 use Rattle.lattice.specs.declared.word.Word.{Word}
-use Rattle.lattice.specs.Words.{greatest-node, most-words, forward, word-within, words-within, Limits}
+use Rattle.lattice.specs.Words.{greatest-node, most-words, forward, word-within, words-within, word-limits, Limits}
 
 -- the largest end of the words, or 0 without words
 abbrev pub largest-end : List Word → ℕ
 largest-end [] = 0
 largest-end (w ∷ ws) = max (w .to) (largest-end ws)
 
-end-within : (last : ℕ) (w : Word) → word-within last w ≡ true → w .to ≤ last
-end-within last w h =
-    let p = and-parts (forward (w .from) (w .to)) (leb (w .to) last && ltb (w .mark) (2 ^ 16)) h in
-    leb-true (w .to) last (and-parts (leb (w .to) last) (ltb (w .mark) (2 ^ 16)) (p .1) .0)
-
+-- a word may end by any later node
 ends-later : (last other : ℕ) (w : Word) → w .to ≤ other → word-within last w ≡ true → word-within other w ≡ true
 ends-later last other w later h =
-    let p = and-parts (forward (w .from) (w .to)) (leb (w .to) last && ltb (w .mark) (2 ^ 16)) h in
-    let q = and-parts (leb (w .to) last) (ltb (w .mark) (2 ^ 16)) (p .1) in
-    and-from (forward (w .from) (w .to)) (leb (w .to) other && ltb (w .mark) (2 ^ 16)) (p .0)
-    (and-from (leb (w .to) other) (ltb (w .mark) (2 ^ 16)) (le-leb (w .to) other later) (q .1))
+    let l = word-limits last w h in
+    and-from (forward (w .from) (w .to)) (leb (w .to) other && ltb (w .mark) (2 ^ 16)) (l .forward)
+    (and-from (leb (w .to) other) (ltb (w .mark) (2 ^ 16)) (le-leb (w .to) other later) (lt-ltb (w .mark) (2 ^ 16) (l .marked)))
 
 all-end : (last : ℕ) (ws : List Word) → words-within last ws ≡ true → largest-end ws ≤ last
 all-end last [] h = omega arith
 all-end last (w ∷ ws) h =
     let p = and-parts (word-within last w) (words-within last ws) h in
-    let a : w .to ≤ last = end-within last w (p .0) in
+    let a : w .to ≤ last = word-limits last w (p .0) .ends in
     let b : largest-end ws ≤ last = all-end last ws (p .1) in
     omega arith
 
