@@ -1,4 +1,6 @@
 // Charts: opened over a grammar, a lattice and a weighing, stepped, settled and questioned.
+#![tactic(auto)]
+
 mod asking;
 pub mod call;
 mod meeting;

@@ -1,7 +1,8 @@
 -- What the places answer to a question. Assumes nothing.
 use Rattle.std.proofs.Common.{◌≡◌, ℕ, suc, ◌+◌, Bool, true, false, List, [], ◌∷◌, Some, None, Option, sym, refl, ap, ◌∙◌, inl, inr, arith}
 use Rattle.std.specs.List.{slice_get}
-use Rattle.chart_model.specs.Plain.{is_open, same_edge, holds, carried, place_from}
+use Rattle.chart_model.specs.Plain.{is_open, same_edge, holds, carried}
+use Rattle.chart_model.specs.Standings.{place_from}
 use Rattle.chart_model.specs.declared.edge.Edge.{Edge}
 use Rattle.chart_model.specs.declared.place.Place.{Place}
 use Rattle.std.proofs.lemmas.Bool.{true≢false, or_left, or_right}

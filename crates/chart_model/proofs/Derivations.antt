@@ -1,6 +1,6 @@
 -- Derivations weigh codes and lie within the lattice, and grow by one child at the end, in weight and in nodes.
 -- Assumes nothing.
-use Rattle.std.proofs.Common.{◌≡◌, ℕ, suc, ◌^◌, ◌<◌, ◌≤◌, Bool, true, false, ◌&&◌, eqb, ltb, leb, List, [], ◌∷◌, ◌++◌, length, take, Some, sym, refl, ap, ◌∙◌, subst, append_assoc, append-nil, le_trans, le_refl, arith}
+use Rattle.std.proofs.Common.{◌≡◌, ℕ, suc, ◌^◌, ◌<◌, ◌≤◌, Bool, true, false, eqb, ltb, leb, List, [], ◌∷◌, ◌++◌, length, take, Some, sym, refl, ap, ◌∙◌, subst, append_assoc, append-nil, le_trans, le_refl, arith}
 use Rattle.std.specs.List.{slice_get}
 use Rattle.std.proofs.lemmas.Bool.{and_parts, ltb-true, eqb-true, eqb-false}
 use Rattle.records.proofs.Every.{every_nth}
@@ -17,7 +17,7 @@ use Rattle.chart_model.specs.declared.node.Kind.TheVariants.{Rule as RuleNode}
 use Rattle.chart_model.specs.declared.node.Node.{Node}
 use Rattle.chart_model.specs.declared.edge.Edge.{Edge}
 use Rattle.chart_model.specs.declared.edge.Edge.TheVariants.{Passive, Active}
-use Rattle.chart_model.proofs.Members.{some_same, take_one_more, take_whole}
+use Rattle.chart_model.proofs.Members.{take_one_more, take_whole}
 
 -- the nodes of a derivation; an active edge has none of its own
 abbrev pub nodes_of : (t : Task) (e : Edge) → Derives t e → List Node

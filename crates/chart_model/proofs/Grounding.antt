@@ -1,27 +1,25 @@
 -- Every edge of a chart that opening and steps lead to follows from what its origin names, which was finished before it.
 -- Assumes nothing.
-use Rattle.std.proofs.Common.{◌≡◌, ℕ, zero, suc, ◌<◌, Bool, true, false, ◌&&◌, ltb, leb, ◌⊎◌, List, [], ◌∷◌, Some, sym, refl, ap, ◌∙◌, subst, inl, inr, arith}
+use Rattle.std.proofs.Common.{◌≡◌, ℕ, zero, suc, Bool, true, false, ◌⊎◌, List, [], ◌∷◌, Some, sym, refl, ap, ◌∙◌, subst, inl, inr}
 use Rattle.std.specs.List.{slice_get}
-use Rattle.std.proofs.lemmas.Bool.{true≢false, and_parts, and_from, ltb-true, leb-true}
+use Rattle.std.proofs.lemmas.Bool.{true≢false, and_from}
 use Rattle.chart_model.specs.Task.{Task, Sound}
-use Rattle.chart_model.specs.Plain.{Chart, is_open, ended, finish, finishing, arrivals, finished_at, improved, placed, arrive, arrive_all, blank, first_arrivals, opened, step}
+use Rattle.chart_model.specs.Plain.{Chart, is_open, ended, finish, finishing, arrivals, finished_at, improved, placed, arrive, arrive_all, blank, first_arrivals, opened}
 use Rattle.chart_model.specs.Stands.{Reached, by_opening, by_step}
-use Rattle.chart_model.specs.Origins.{Begins, Joined, AtPlace, Agrees, number_of, number_at, earlier, names_earlier, due, numbered, in_order, orderly, Grounded}
+use Rattle.chart_model.specs.Origins.{AtPlace, Agrees, earlier, names_earlier, orderly, Grounded}
 use Rattle.chart_model.specs.declared.edge.Edge.{Edge}
 use Rattle.chart_model.specs.declared.origin.Origin.{Origin}
 use Rattle.chart_model.specs.declared.origin.Origin.TheVariants.{Word as FromWord, Empty, First, Next}
 use Rattle.chart_model.specs.declared.place.Arrival.{Arrival}
 use Rattle.chart_model.specs.declared.place.Place.{Place}
 use Rattle.chart_model.specs.declared.place.Standing.{Standing}
-use Rattle.chart_model.specs.declared.place.State.{State}
-use Rattle.chart_model.specs.declared.place.State.TheVariants.{Open, Finished}
-use Rattle.chart_model.proofs.Members.{In, none_some, some_same, nth_in, in_nth, every_in}
+use Rattle.chart_model.proofs.Members.{In, none_some, some_same, nth_in, in_nth}
 use Rattle.chart_model.proofs.Placing.{Brought, improved_cases, placed_cases}
 use Rattle.chart_model.proofs.Arriving.{arrive_cases, arrive_all_keep, arrive_all_from, arrive_all_done, arrive_all_count}
 use Rattle.chart_model.proofs.Finishing.{finish_from, finish_there, finish_done}
 use Rattle.chart_model.proofs.OpeningArrivals.{Opens, opening_from}
 use Rattle.chart_model.proofs.StepArrivals.{Arises, arrivals_from}
-use Rattle.chart_model.proofs.Numbering.{earlier_of, arrive_all_orderly, orderly_finish, shut_earlier}
+use Rattle.chart_model.proofs.Numbering.{arrive_all_orderly, orderly_finish, shut_earlier}
 use Rattle.chart_model.proofs.Invariant.{inv_coded}
 use Rattle.chart_model.proofs.Stepping.{Chosen, step_cases, inv_reached}
 

@@ -1,5 +1,5 @@
 -- What holds of a chart after opening and after every step, whatever the capacity of each. Assumes nothing.
-use Rattle.std.proofs.Common.{◌≡◌, ℕ, true, false, ◌⊎◌, List, [], sym, subst₂, inl, inr}
+use Rattle.std.proofs.Common.{◌≡◌, ℕ, true, false, ◌⊎◌, List, sym, subst₂, inl, inr}
 use Rattle.std.proofs.lemmas.Bool.{true≢false}
 use Rattle.weighing.specs.Laws.{Code}
 use Rattle.chart_model.specs.Task.{Task, Sound}

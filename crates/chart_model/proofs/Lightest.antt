@@ -1,5 +1,5 @@
 -- The search for the lightest open edge finds one, unless none is open. Assumes nothing.
-use Rattle.std.proofs.Common.{◌≡◌, ℕ, suc, ◌≤◌, Bool, true, false, List, [], ◌∷◌, length, Some, None, Option, sym, refl, ap, ◌∙◌, subst, inl, inr, arith}
+use Rattle.std.proofs.Common.{◌≡◌, ℕ, suc, ◌≤◌, Bool, true, false, List, [], ◌∷◌, length, Some, None, Option, sym, refl, ◌∙◌, subst, inl, inr, arith}
 use Rattle.std.proofs.lemmas.Bool.{true≢false}
 use Rattle.weighing.specs.Laws.{Weights, Lawful, Code}
 use Rattle.chart_model.specs.Plain.{Candidate, is_open, lighter_of, lightest_from, done}

@@ -1,11 +1,11 @@
 -- The law of readings: following origins lists a derivation of the weight that the edge carries. Assumes nothing.
-use Rattle.std.proofs.Common.{◌≡◌, ℕ, zero, suc, ◌<◌, ◌≤◌, true, false, List, [], ◌++◌, length, Some, None, Option, sym, refl, ap, ◌∙◌, subst, subst₂, arith}
+use Rattle.std.proofs.Common.{◌≡◌, ℕ, zero, suc, ◌≤◌, true, false, List, [], ◌++◌, length, Some, None, Option, sym, ap, ◌∙◌, subst, subst₂, arith}
 use Rattle.std.specs.List.{slice_get}
 use Rattle.std.proofs.lemmas.Bool.{and_parts}
 use Rattle.chart_model.specs.Task.{Task, Sound}
 use Rattle.chart_model.specs.Listing.{headed}
-use Rattle.chart_model.specs.Plain.{Chart, is_open, done, carried}
-use Rattle.chart_model.specs.Stands.{Carries, Reached}
+use Rattle.chart_model.specs.Plain.{Chart, is_open, done}
+use Rattle.chart_model.specs.Stands.{Carries}
 use Rattle.chart_model.specs.Origins.{AtPlace, Agrees, number_at, earlier, names_earlier, Grounded}
 use Rattle.chart_model.specs.Reading.{rule_of, rule_at, named, followed, reading_at, reading, LawOfReadings}
 use Rattle.chart_model.specs.declared.edge.Edge.{Edge}
@@ -19,7 +19,7 @@ use Rattle.chart_model.proofs.Derivations.{Reads}
 use Rattle.chart_model.proofs.Conclusions.{word_reads, empty_reads, first_reads, next_reads}
 use Rattle.chart_model.proofs.Lightest.{done_within}
 use Rattle.chart_model.proofs.Numbering.{earlier_parts, shut_earlier, names_before}
-use Rattle.chart_model.proofs.Carried.{StandsAt, carried_stands}
+use Rattle.chart_model.proofs.Carried.{carried_stands}
 use Rattle.chart_model.proofs.Grounding.{grounded_reached}
 
 pub followed_at : (ps : List Place) (n depth : ℕ) (p : Place) → slice_get ps n ≡ Some p → followed (suc depth) ps n ≡ named ps (followed depth ps) p.edge p.origin

@@ -1,5 +1,5 @@
 -- A lightest open edge stands at its place, and a step finishes just it. Assumes nothing.
-use Rattle.std.proofs.Common.{◌≡◌, ℕ, suc, Bool, true, false, List, [], ◌∷◌, Some, None, Option, sym, refl, ap, ◌∙◌, subst, inl, inr}
+use Rattle.std.proofs.Common.{◌≡◌, ℕ, suc, Bool, true, false, List, [], ◌∷◌, Some, None, Option, refl, subst, inl, inr}
 use Rattle.chart_model.specs.Plain.{is_open}
 use Rattle.chart_model.specs.Standings.{seen, lighter_standing, standing_from}
 use Rattle.chart_model.specs.declared.place.Standing.{Standing}

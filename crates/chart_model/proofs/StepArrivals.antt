@@ -1,10 +1,9 @@
 -- The arrivals of a step are exactly what follows from the edge just finished and those finished before it,
 -- and each names as its origin what it follows from. Assumes nothing.
-use Rattle.std.proofs.Common.{◌≡◌, ℕ, suc, Bool, true, false, eqb, ◌⊎◌, List, Some, None, Option, sym, refl, ap, ◌∙◌, subst, inl, inr}
+use Rattle.std.proofs.Common.{◌≡◌, ℕ, suc, Bool, true, false, eqb, ◌⊎◌, List, Some, None, Option, sym, refl, ap, ◌∙◌, inl, inr}
 use Rattle.std.specs.List.{slice_get}
 use Rattle.std.specs.Option.{option_or}
 use Rattle.std.proofs.lemmas.Bool.{true≢false, eqb-true, eq-eqb}
-use Rattle.weighing.specs.Laws.{Weights}
 use Rattle.grammar.specs.Rules.{Rule}
 use Rattle.chart_model.specs.Task.{Task}
 use Rattle.chart_model.specs.Plain.{is_open, gathered, standing, reached, wants, rule_takes, rule_brings, active_takes, edge_takes, takes, place_brings, arrivals}
@@ -20,7 +19,7 @@ use Rattle.chart_model.specs.declared.place.State.{State}
 use Rattle.chart_model.specs.declared.place.State.TheVariants.{Open, Finished}
 use Rattle.chart_model.proofs.Members.{In, in_either, in_nth, none_some, at_nth, nth_at}
 use Rattle.chart_model.proofs.Conclusions.{wants_true, wants_from}
-use Rattle.chart_model.proofs.Gathering.{Brings, brings_left, brings_right, SameArrival, some_arrival, gathered_from, gathered_all}
+use Rattle.chart_model.proofs.Gathering.{Brings, brings_left, brings_right, some_arrival, gathered_from, gathered_all}
 
 abbrev arriving : Edge → ℕ → Origin → Arrival
 arriving e v o = record { edge = e; weight = v; origin = o }

@@ -1,7 +1,7 @@
 -- A chart keeps to its capacity, and stops by as many steps. Assumes nothing.
 use Rattle.std.proofs.Common.{◌≡◌, ℕ, zero, suc, ◌+◌, ◌≤◌, Bool, true, false, ◌⊎◌, List, [], ◌∷◌, length, Some, None, Option, sym, refl, ap, ◌∙◌, subst, inl, inr, arith}
 use Rattle.chart_model.specs.Task.{Task, Sound}
-use Rattle.chart_model.specs.Plain.{Chart, Candidate, is_open, blank, first_arrivals, lightest_open, arrivals, finishing, step, steps, stopped, settled, opened, done}
+use Rattle.chart_model.specs.Plain.{Chart, Candidate, is_open, blank, first_arrivals, lightest_open, arrivals, finishing, step, steps, stopped, opened, done}
 use Rattle.chart_model.specs.declared.place.Place.{Place}
 use Rattle.std.proofs.lemmas.Bool.{true≢false, false≢true}
 use Rattle.chart_model.proofs.Members.{In, nth_in}

@@ -4,7 +4,8 @@ use Rattle.std.specs.List.{slice_get}
 use Rattle.chart_model.specs.Task.{Task}
 use Rattle.chart_model.specs.Derivation.{Tree, tree_weight}
 use Rattle.chart_model.specs.Listing.{tree_nodes, headed, word_node}
-use Rattle.chart_model.specs.Plain.{Chart, place_of, settled_answer}
+use Rattle.chart_model.specs.Plain.{Chart, settled_answer}
+use Rattle.chart_model.specs.Standings.{place_of}
 use Rattle.chart_model.specs.Stands.{Carries, Reached}
 use Rattle.chart_model.specs.declared.edge.Edge.{Edge}
 use Rattle.chart_model.specs.declared.edge.Edge.TheVariants.{Passive, Active}

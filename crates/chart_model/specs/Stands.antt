@@ -1,7 +1,7 @@
 -- The law of the lightest: what a chart says of derivations. Assumes nothing.
-use Rattle.std.specs.Prelude.{◌≡◌, ℕ, ◌<◌, ◌≤◌, true, false, List, [], ◌∷◌, length, Some, None}
+use Rattle.std.specs.Prelude.{◌≡◌, ℕ, ◌<◌, true, false, List, [], ◌∷◌, length, Some, None}
 use Rattle.std.specs.List.{slice_get}
-use Rattle.chart_model.specs.Task.{Task, Sound}
+use Rattle.chart_model.specs.Task.{Task}
 use Rattle.chart_model.specs.Derivation.{Derives, weight_of, LiesWithin}
 use Rattle.chart_model.specs.Plain.{Chart, opened, step, steps, stopped, settled, carried, same_edge}
 use Rattle.chart_model.specs.declared.edge.Edge.{Edge}

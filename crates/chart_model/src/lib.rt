@@ -1,4 +1,6 @@
 // What a chart is and does, and what it says of derivations: definitions, and the laws proved of them.
+#![tactic(auto)]
+
 ghost use Rattle.chart_model.specs.Task.{Task, Sound};
 ghost use Rattle.chart_model.specs.Plain.{Chart};
 ghost use Rattle.chart_model.specs.Stands.{Reached, LawOfTheLightest};

@@ -1,14 +1,13 @@
 -- Rules and records by their numbers. Assumes nothing.
-use Rattle.std.proofs.Common.{◌≡◌, ℕ, ◌^◌, ◌<◌, ◌≤◌, min, true, ◌&&◌, ltb, leb, List, length, get_or, take, IfSome, Some, None, Option, sym, refl, ap, ◌∙◌, subst, arith}
+use Rattle.std.proofs.Common.{◌≡◌, ℕ, ◌^◌, ◌<◌, ◌≤◌, min, true, ltb, leb, List, length, get_or, take, IfSome, Some, None, Option, sym, ap, ◌∙◌, arith}
 use Rattle.std.specs.List.{slice_get}
-use Rattle.std.specs.Option.{option_map}
 use Rattle.std.proofs.lemmas.List.{get_or-take, length-take}
 use Rattle.std.proofs.lemmas.Option.{slice_get-get_or, slice_get_past}
 use Rattle.std.proofs.lemmas.Bool.{and_parts, leb-true}
 use Rattle.records.proofs.Every.{every_nth}
 use Rattle.grammar.specs.declared.rule.RuleRecord.{RuleRecord}
 use Rattle.grammar.specs.Rules.{Rule, most_symbols, right_of}
-use Rattle.grammar.specs.Records.{rule_of, rules_of, record_within, records_within}
+use Rattle.grammar.specs.Records.{record_within, records_within}
 
 -- records within their limits are short
 pub short_record : (rs : List RuleRecord) (n : ℕ) (found : Option RuleRecord) → records_within rs ≡ true → found ≡ slice_get rs n → IfSome found (λ r. r.length ≤ most_symbols)

@@ -1,7 +1,7 @@
 -- What a surcharge changes, rule by rule, and what two in a row come to. Assumes nothing.
 use Rattle.std.proofs.Common.{◌≡◌, ℕ, ◌+◌, min, Bool, true, false, eqb, List, map, length, Some, None, Option, sym, refl, ap, ◌∙◌, arith}
 use mathlib.Core.Path.{fun_ext}
-use mathlib.Core.List.{map_map}
+use mathlib.Core.List.{map-map}
 use Rattle.std.specs.List.{slice_get}
 use Rattle.std.specs.Option.{option_map}
 use Rattle.std.proofs.iter.runs.Lists.{slice_get-map}
@@ -117,11 +117,11 @@ commutes_at symbol other extra more apart r = go (eqb r.left symbol) refl (eqb r
 -- on one symbol, two act as one with both extras
 pub surcharges_add : (symbol first second : ℕ) (rules : List Rule) → surcharged symbol second (surcharged symbol first rules) ≡ surcharged symbol (min (first + second) greatest_mark) rules
 surcharges_add symbol first second rules =
-    map_map (raised symbol second) (raised symbol first) rules ∙ ap (λ f. map f rules) (fun_ext (adds_at symbol first second))
+    map-map (raised symbol second) (raised symbol first) rules ∙ ap (λ f. map f rules) (fun_ext (adds_at symbol first second))
 
 -- on different symbols, their order does not matter
 pub surcharges_commute : (symbol other extra more : ℕ) → (other ≡ symbol → ⊥) → (rules : List Rule) → surcharged other more (surcharged symbol extra rules) ≡ surcharged symbol extra (surcharged other more rules)
 surcharges_commute symbol other extra more apart rules =
-    map_map (raised other more) (raised symbol extra) rules
+    map-map (raised other more) (raised symbol extra) rules
     ∙ ap (λ f. map f rules) (fun_ext (commutes_at symbol other extra more apart))
-    ∙ sym (map_map (raised symbol extra) (raised other more) rules)
+    ∙ sym (map-map (raised symbol extra) (raised other more) rules)

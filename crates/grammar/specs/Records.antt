@@ -6,7 +6,7 @@ use Rattle.std.proofs.lemmas.Bool.{and_parts, and_from, leb-true, le-leb}
 use Rattle.records.specs.Lists.{every}
 use Rattle.records.proofs.Every.{every_map}
 use Rattle.grammar.specs.declared.rule.RuleRecord.{RuleRecord}
-use Rattle.grammar.specs.Rules.{Rule, most_rules, most_symbols, rule_within, rules_within, Limits}
+use Rattle.grammar.specs.Rules.{Rule, most_rules, most_symbols, rule_within, Limits}
 
 -- symbols past the length are ignored
 abbrev pub rule_of : RuleRecord → Rule

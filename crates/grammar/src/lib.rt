@@ -1,4 +1,6 @@
 // Grammars: lists of rules, each with a left symbol, right symbols and a mark of doubt.
+#![tactic(auto)]
+
 ghost use Rattle.std.specs.Prelude.{◌≡◌, List, length as list_length};
 ghost use Rattle.grammar.specs.Rules.{Rule, Limits, left_of, mark_of, length_of, right_of};
 

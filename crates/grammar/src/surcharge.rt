@@ -15,9 +15,9 @@ pub struct Surcharge<G> {
 impl<G: Grammar> Surcharge<G> {
     // A surcharge over a grammar. Another on the same symbol adds to it; one on another symbol could as well lie below it.
     pub fn new(grammar: G, symbol: u8, extra: u16) -> Self
-        ensures rules { surcharged result.symbol result.extra (rules result.grammar) ≡ surcharged symbol extra (rules grammar) }
-        ensures adds { (more : ℕ) → surcharged symbol more (surcharged result.symbol result.extra (rules result.grammar)) ≡ surcharged symbol (min (extra + more) greatest_mark) (rules grammar) }
-        ensures commutes { (other more : ℕ) → (other ≢ symbol) → surcharged other more (surcharged result.symbol result.extra (rules result.grammar)) ≡ surcharged symbol extra (surcharged other more (rules grammar)) }
+        ensures rules { surcharged result.symbol result.extra (G.rules result.grammar) ≡ surcharged symbol extra (G.rules grammar) }
+        ensures adds { (more : ℕ) → surcharged symbol more (surcharged result.symbol result.extra (G.rules result.grammar)) ≡ surcharged symbol (min (extra + more) greatest_mark) (G.rules grammar) }
+        ensures commutes { (other more : ℕ) → (other ≢ symbol) → surcharged other more (surcharged result.symbol result.extra (G.rules result.grammar)) ≡ surcharged symbol extra (surcharged other more (G.rules grammar)) }
     {
         Surcharge {
             grammar,

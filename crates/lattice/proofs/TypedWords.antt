@@ -1,8 +1,7 @@
 -- The words of a typed line by their numbers. Assumes nothing.
-use Rattle.std.proofs.Common.{◌≡◌, ℕ, zero, suc, ◌+◌, ◌<◌, ◌≤◌, List, [], ◌∷◌, length, get_or, Some, None, Option, sym, ap, ◌∙◌, add-zero, arith}
+use Rattle.std.proofs.Common.{◌≡◌, ℕ, zero, suc, ◌+◌, ◌<◌, ◌≤◌, List, [], ◌∷◌, length, get_or, Some, None, sym, ap, ◌∙◌, add-zero, arith}
 use Rattle.std.specs.List.{slice_get}
 use Rattle.std.proofs.lemmas.Option.{slice_get_past}
-use Rattle.lattice.specs.declared.word.Word.{Word}
 use Rattle.lattice.specs.Typed.{typed_word, typed_from, length_typed}
 
 pub typed_at : (n i : ℕ) (bs : List ℕ) → i < length bs → slice_get (typed_from n bs) i ≡ Some (typed_word (n + i) (get_or bs i 0))

@@ -1,4 +1,6 @@
 // Word lattices: the words that a recogniser heard, between numbered nodes.
+#![tactic(auto)]
+
 ghost use Rattle.std.specs.Prelude.{◌≡◌, ℕ, List, length};
 ghost use Rattle.std.specs.List.{slice_get};
 ghost use Rattle.lattice.specs.declared.word.Word.{Word};

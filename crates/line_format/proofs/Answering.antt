@@ -6,7 +6,7 @@ use Rattle.lattice.specs.declared.word.Word.{Word}
 use Rattle.line_format.specs.declared.fault.FormFault.{FormFault}
 use Rattle.line_format.specs.Faults.{form_number}
 use Rattle.line_format.specs.Lines.{text_words}
-use Rattle.line_format.specs.Reading.{over, Answers, Stand, ReadsBack, ReadsOnly}
+use Rattle.line_format.specs.Reading.{over, Answers, Stand, ReadsBack}
 use Rattle.line_format.specs.Writing.{Writes, enough}
 use Rattle.line_format.proofs.Deciding.{text_decided}
 use Rattle.line_format.proofs.WrittenTexts.{written_read, read_written}

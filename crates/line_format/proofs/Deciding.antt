@@ -1,10 +1,10 @@
 -- The front of a text decides what it says, if it is longer than any lines that there is room for. Assumes nothing.
-use Rattle.std.proofs.Common.{◌≡◌, ℕ, zero, suc, ◌+◌, ◌*◌, ◌<◌, ◌≤◌, ◌⊎◌, List, [], ◌∷◌, ◌++◌, length, Some, None, Ok, Err, Option, Result, sym, refl, ap, ◌∙◌, inl, inr, ⊎_elim, append_assoc, arith, length-append}
+use Rattle.std.proofs.Common.{◌≡◌, ℕ, zero, suc, ◌+◌, ◌*◌, ◌<◌, ◌≤◌, ◌⊎◌, List, [], ◌∷◌, ◌++◌, length, Some, None, Err, Option, sym, refl, ap, ◌∙◌, inl, inr, ⊎_elim, append_assoc, arith, length-append}
 use Rattle.std.specs.Result.{result_map_both}
 use Rattle.std.proofs.ByRecursion.{All-append}
 use Rattle.lattice.specs.declared.word.Word.{Word}
 use Rattle.line_format.specs.Lines.{line_feed, lines, line_word, lines_words, text_words, most_lines}
-use Rattle.line_format.specs.Split.{Without, Parted}
+use Rattle.line_format.specs.Split.{Without}
 use Rattle.line_format.specs.Writing.{written, longest_line, enough}
 use Rattle.line_format.proofs.Gathering.{line_by, no_room}
 use Rattle.line_format.proofs.Pieces.{SomehowParted, find_parted}

@@ -1,11 +1,10 @@
 -- The fields of a line, and the word that they write. Assumes nothing.
-use Rattle.std.proofs.Common.{◌≡◌, ℕ, Bool, true, false, ◌&&◌, leb, List, [], ◌∷◌, ◌++◌, Some, None, Option, sym, refl, ap, ◌∙◌, ⊎_elim}
+use Rattle.std.proofs.Common.{◌≡◌, ℕ, Bool, false, ◌&&◌, leb, List, [], ◌∷◌, ◌++◌, Some, None, Option, sym, refl, ap, ◌∙◌, ⊎_elim}
 use Rattle.std.specs.Bool.{then_some}
 use Rattle.std.specs.Str.Parse.{digits_value}
 use Rattle.std.specs.Char.{is_ascii_digit}
 use Rattle.std.specs.Str.{all_ascii_digits}
 use Rattle.std.proofs.lemmas.Bool.{and_left, and_right}
-use Rattle.lattice.specs.declared.word.Word.{Word}
 use Rattle.line_format.specs.Lines.{space, starts, number, fields, word_of, fields_word, line_word}
 use Rattle.line_format.specs.Split.{Without, Parted}
 use Rattle.line_format.proofs.Pieces.{cut_split, cut_whole, SomehowParted, find_parted}

@@ -1,5 +1,5 @@
 -- The lines of a text. Assumes nothing.
-use Rattle.std.proofs.Common.{◌≡◌, ℕ, ◌<◌, false, List, [], ◌∷◌, length, refl, ap, ◌∙◌, arith}
+use Rattle.std.proofs.Common.{◌≡◌, ℕ, ◌<◌, false, List, [], ◌∷◌, length, ap, ◌∙◌, arith}
 use Rattle.line_format.specs.Lines.{line_feed, onto, lines}
 use Rattle.line_format.specs.Split.{Without, Parted}
 use Rattle.line_format.proofs.Pieces.{cut_by, cut_split}

@@ -1,5 +1,5 @@
 -- What reading a text into a list answers and leaves. Assumes nothing.
-use Rattle.std.specs.Prelude.{◌≡◌, ℕ, ◌≤◌, List, ◌++◌, length, drop, Ok, Err, Result, OnOk}
+use Rattle.std.specs.Prelude.{◌≡◌, ℕ, List, ◌++◌, length, drop, Ok, Err, Result, OnOk}
 use Rattle.std.specs.Result.{result_map_both}
 use Rattle.lattice.specs.declared.word.Word.{Word}
 use Rattle.line_format.specs.declared.fault.FormFault.{FormFault}

@@ -1,4 +1,6 @@
 // From the bytes of input lines to words.
+#![tactic(auto)]
+
 pub mod fault;
 mod line;
 mod number;

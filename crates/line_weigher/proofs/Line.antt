@@ -1,6 +1,6 @@
 -- What a text weighs whose words were read into a list, and what that says. Assumes nothing.
 use Rattle.std.proofs.Common.{◌≡◌, ℕ, ◌-◌, List, ◌++◌, take, Some, None, Ok, Err, Option, Result, sym, refl, ap, ◌∙◌, subst, arith}
-use native.Mathlib.Nat.{sub_zero}
+use native.Mathlib.Nat.{sub-zero}
 use Rattle.std.specs.Result.{result_map_both}
 use Rattle.lattice.specs.declared.word.Word.{Word}
 use Rattle.lattice.specs.Checking.{words_refusal}
@@ -34,7 +34,7 @@ module _ {text : List ℕ} {before after : List Word} {n : ℕ} (a : Answers tex
   weight_by : (refusal : Option (ℕ × Option ℕ)) → refusal ≡ words_refusal (take (n - 0) after) → checked (take (n - 0) after) refusal ≡ text_weight text
   weight_by refusal e =
       ap (checked (take (n - 0) after)) e
-      ∙ ap (λ k. words_weight (take k after)) (sub_zero n)
+      ∙ ap (λ k. words_weight (take k after)) (sub-zero n)
       ∙ sym (ap (λ s. elim s as (λ _. Result ℕ ℕ) [ Ok ws ↦ words_weight ws | Err number ↦ Err number ]) (text_front a))
 
   pub words_refused : (r : ℕ × Option ℕ) → Some r ≡ words_refusal (take (n - 0) after) → Err r.0 ≡ text_weight text
@@ -45,7 +45,7 @@ module _ {text : List ℕ} {before after : List Word} {n : ℕ} (a : Answers tex
 
   -- whatever words the text writes, just those stand there
   pub words_are : (ws : List Word) → text_words text ≡ Ok ws → take (n - 0) after ≡ ws
-  words_are ws e = let same : take n after ≡ ws = let front = text_front a in cc in ap (λ k. take k after) (sub_zero n) ∙ same
+  words_are ws e = let same : take n after ≡ ws = let front = text_front a in cc in ap (λ k. take k after) (sub-zero n) ∙ same
 
   pub never_refused : (r : ℕ × Option ℕ) → Some r ≡ words_refusal (take (n - 0) after) → (ws : List Word) → text_words text ≡ Ok ws → words_refusal ws ≡ None → ⊥
   never_refused r bad ws e good = none_some (sym (bad ∙ ap words_refusal (words_are ws e) ∙ good))

@@ -1,4 +1,6 @@
 // What the heard words of a text weigh as a line.
+#![tactic(auto)]
+
 ghost use Rattle.std.specs.Prelude.{◌≡◌, ℕ, ◌≤◌, List, ◌++◌, length, None, Ok};
 ghost use Rattle.std.specs.Result.{result_map_both};
 ghost use Rattle.lattice.specs.declared.word.Word.{Word};

@@ -1,4 +1,6 @@
 // Records that are checked one by one, and the check of a list of them.
+#![tactic(auto)]
+
 ghost use Rattle.std.specs.Prelude.{◌≡◌, ℕ, Bool, true, Option, OnOk};
 ghost use Rattle.std.specs.Option.{option_map};
 ghost use Rattle.std.specs.Result.{result_err};
@@ -27,8 +29,8 @@ pub trait Record: Copy {
 
 // The check of one record of a list, whose fault tells where it stands.
 fn check_at<R: Record>(at: usize, item: R) -> Result<(), Placed<R::Fault>>
-    ensures refused { option_map (placed_number number) (result_err result) ≡ refusal_at refusal at item }
-    ensures accepted { OnOk result (within item ≡ true) }
+    ensures refused { option_map (placed_number R.number) (result_err result) ≡ refusal_at R.refusal at item }
+    ensures accepted { OnOk result (R.within item ≡ true) }
 {
     match item.check() {
         Ok(()) => Ok(()),
@@ -38,8 +40,8 @@ fn check_at<R: Record>(at: usize, item: R) -> Result<(), Placed<R::Fault>>
 
 // The check of a list of records, in order.
 pub fn check_records<R: Record>(records: &[R]) -> Result<(), Placed<R::Fault>>
-    ensures refused { option_map (placed_number number) (result_err result) ≡ first_refusal refusal 0 records.now }
-    ensures accepted { OnOk result (every within records.now ≡ true) }
+    ensures refused { option_map (placed_number R.number) (result_err result) ≡ first_refusal R.refusal 0 records.now }
+    ensures accepted { OnOk result (every R.within records.now ≡ true) }
 {
     for (at, item) in records.iter().enumerate() {
         check_at(at, *item)?;

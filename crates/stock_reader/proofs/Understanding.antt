@@ -1,6 +1,6 @@
 -- What is understood of a text whose words were read into a list. Assumes nothing.
 use Rattle.std.proofs.Common.{◌≡◌, ℕ, ◌-◌, List, length, take, Some, None, Ok, Err, Option, Result, sym, ap, ◌∙◌, ap₂}
-use native.Mathlib.Nat.{sub_zero}
+use native.Mathlib.Nat.{sub-zero}
 use Rattle.lattice.specs.declared.word.Word.{Word}
 use Rattle.lattice.specs.Checking.{words_refusal}
 use Rattle.lattice.specs.Heard.{largest_end}
@@ -18,7 +18,7 @@ module _ {text : List ℕ} {before after : List Word} {n : ℕ} (a : Answers tex
   understood_by : (refusal : Option (ℕ × Option ℕ)) → refusal ≡ words_refusal (take (n - 0) after) → checked (take (n - 0) after) refusal ≡ understood text
   understood_by refusal e =
       ap (checked (take (n - 0) after)) e
-      ∙ ap (λ k. lattice_of (take k after)) (sub_zero n)
+      ∙ ap (λ k. lattice_of (take k after)) (sub-zero n)
       ∙ sym (ap (λ s. elim s as (λ _. Result Understood ℕ) [ Ok ws ↦ lattice_of ws | Err number ↦ Err number ]) (text_front a))
 
   pub words_refused : (r : ℕ × Option ℕ) → Some r ≡ words_refusal (take (n - 0) after) → Err r.0 ≡ understood text

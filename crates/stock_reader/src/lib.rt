@@ -1,4 +1,6 @@
 // What the program answers to a text of heard words.
+#![tactic(auto)]
+
 ghost use Rattle.std.specs.Prelude.{◌≡◌, ℕ, ◌≤◌, List, ◌++◌, length};
 ghost use Rattle.std.specs.Result.{result_map_both};
 ghost use Rattle.line_format.specs.Writing.{enough};

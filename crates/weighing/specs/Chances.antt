@@ -1,7 +1,6 @@
 -- Chances multiply lawfully: a product of parts is no larger than either part, and grows with both. Assumes nothing.
-use Rattle.std.specs.Prelude.{◌≡◌, ℕ, ◌*◌, ◌/◌, ◌^◌, ◌<◌, ◌≤◌, min, true, false, ltb, ◌⊎◌}
-use Rattle.std.proofs.Common.{inl, inr, ⊎_elim, mul-le-mul, mul_comm, le-div_iff_mul-le, div-mul-le_self, le_trans, le_refl, arith}
-use Rattle.std.proofs.Math.Nat.{div-le_of_le-mul}
+use Rattle.std.specs.Prelude.{ℕ, ◌*◌, ◌/◌, ◌≤◌, min}
+use Rattle.std.proofs.Common.{inl, inr, ⊎_elim, mul-le-mul, le_refl, arith}
 use Rattle.std.proofs.lemmas.Bool.{ltb-true, ltb-false, lt-ltb, le-ltb, cases_order}
 use Rattle.weighing.specs.Laws.{Lawful}
 use Rattle.weighing.specs.Weighings.{certain, chance_join, chance_weights}

@@ -1,4 +1,6 @@
 // Weighings: how marks of doubt become weights, how weights are joined, and which of two is lighter.
+#![tactic(auto)]
+
 ghost use Rattle.std.specs.Prelude.{◌≡◌};
 ghost use Rattle.weighing.specs.Laws.{Weights, Lawful};
 

@@ -1,4 +1,6 @@
 // Reads heard words from standard input, and tells what it has understood.
+#![tactic(auto)]
+
 ghost use Rattle.std.specs.Prelude.{◌≤◌, length, IfOk};
 
 use line_format::text::ENOUGH_BYTES;

@@ -13,7 +13,7 @@ returns c =
     let t = line_task ws in
     let chart = settled t room (opened t room) in
     let r = c.weigh.result in
-    let ends = c.last-node-last.ensures in
+    let ends = c.last_node-last.ensures in
     record {
       answer = c.weigh.ensures.answer ∙ ap (settled_answer t chart line 0) ends;
       says = line_says ws chart r (subst (λ n. SettledSays t chart line 0 n r) ends c.weigh.ensures.says);

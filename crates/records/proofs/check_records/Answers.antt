@@ -4,13 +4,13 @@ use Rattle.records.proofs.Checking.{passed, stopped, none_left}
 use Rattle.records.proofs.Every.{every_more, every_all}
 use Rattle.records.proofs.check_records.Goals as goal
 
-pub returns-in-err-check-at : goal.returns-in-err-check-at
-returns-in-err-check-at g c =
+pub returns-in_err-check_at : goal.returns-in_err-check_at
+returns-in_err-check_at g c =
     let x = c.index-records-at in
-    let p = err_from_is_err_and c.from-residual.result c.from-residual.ensures.1 in
+    let p = err_from_is_err_and c.from_residual.result c.from_residual.ensures.1 in
     rw (p.1, p.2)
     record {
-      refused = stopped g.R.Record.refusal c.args.records.now c.loop-at.at x.result _ c.loop-at-test.true x.is c.in-err-check-at.ensures.refused ∙ c.loop-at.invariant.0;
+      refused = stopped g.R.Record.refusal c.args.records.now c.loop-at.at x.result _ c.loop-at-test.true x.is c.in_err-check_at.ensures.refused ∙ c.loop-at.invariant.0;
       accepted = tt;
     }
 
@@ -20,7 +20,7 @@ loop-at-preserved g c =
     let xs = c.args.records.now in
     let i = c.loop-at.at in
     let x = c.index-records-at in
-    let e = c.in-ok-check-at.ensures in (
+    let e = c.in_ok-check_at.ensures in (
       passed r.refusal xs i x.result c.loop-at-test.true x.is e.refused ∙ c.loop-at.invariant.0,
       every_more r.within xs i x.result c.loop-at-test.true x.is c.loop-at.invariant.1 e.accepted,
     )

@@ -10,4 +10,4 @@ loop-node-init g c =
 pub loop-node-preserved : goal.loop-node-preserved
 loop-node-preserved g c =
     nodes_more (g.W.Weighing.weights c.args.weighing.now) (g.G.Grammar.rules c.args.grammar.now) (suc c.args.last)
-    c.loop-node.node (view c.loop-node.table.places) (view c.empty-arrivals.new.table.places) _ (omega arith) c.loop-node.invariant c.empty-arrivals.ensures
+    c.loop-node.node (view c.loop-node.table.places) (view c.empty_arrivals.new.table.places) _ (omega arith) c.loop-node.invariant c.empty_arrivals.ensures

@@ -4,10 +4,10 @@ use Rattle.chart.specs.View.{view}
 use Rattle.chart.proofs.Rounds.{left_none, left_some, left_nothing}
 use Rattle.chart.proofs.opening.word_arrivals.Goals as goal
 
-pub loop-n-preserved-in-default : goal.loop-n-preserved-in-default
-loop-n-preserved-in-default g c =
+pub loop-n-preserved-in_default : goal.loop-n-preserved-in_default
+loop-n-preserved-in_default g c =
     let ws = g.W.Weighing.weights c.args.weighing.now in
-    left_none (word_brings ws) (g.L.Lattice.words c.args.lattice.now) ws.lighter c.loop-n.n (view c.loop-n.table.places) _ c.loop-n.invariant c.in-default.ensures
+    left_none (word_brings ws) (g.L.Lattice.words c.args.lattice.now) ws.lighter c.loop-n.n (view c.loop-n.table.places) _ c.loop-n.invariant c.in_default.ensures
 
 pub loop-n-preserved : goal.loop-n-preserved
 loop-n-preserved g c =

@@ -4,9 +4,9 @@ use Rattle.chart.specs.Reading.{own}
 use Rattle.chart.proofs.Overlay.{wrote_nothing, wrote_one, wrote_past}
 use Rattle.chart.proofs.reading.write_own.Goals as goal
 
-pub returns-in-default : goal.returns-in-default
-returns-in-default c =
-    wrote_nothing c.args.nodes.now c.args.filled (own (held c.args.table.now).places c.args.place) c.in-default.ensures c.requires.within
+pub returns-in_default : goal.returns-in_default
+returns-in_default c =
+    wrote_nothing c.args.nodes.now c.args.filled (own (held c.args.table.now).places c.args.place) c.in_default.ensures c.requires.within
 
 pub returns-then-filled-nodes : goal.returns-then-filled-nodes
 returns-then-filled-nodes c =

@@ -9,6 +9,6 @@ returns g c =
     let start = c.open-chart.result in
     let (made, left) =
     called_by (task_of g.G.Grammar.rules g.L.Lattice.last g.L.Lattice.words g.W.Weighing.weights) s start.setting c.open-chart.ensures.setting
-    (held start.table) (held c.make-all.new.chart.table) c.args.calls.now c.make-all.new.calls
-    c.open-chart.ensures.opened c.make-all.ensures.made c.make-all.ensures.left in
-    record { made = made; left = left; setting = c.make-all.ensures.setting ∙ c.open-chart.ensures.setting }
+    (held start.table) (held c.make_all.new.chart.table) c.args.calls.now c.make_all.new.calls
+    c.open-chart.ensures.opened c.make_all.ensures.made c.make_all.ensures.left in
+    record { made = made; left = left; setting = c.make_all.ensures.setting ∙ c.open-chart.ensures.setting }

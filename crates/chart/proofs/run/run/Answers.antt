@@ -38,11 +38,11 @@ returns g c =
     let made = c.begin-chart.new.calls in
     let d = held c.begin-chart.result.table in
     let e = held c.settle-chart.result.table in
-    let asked = c.put-all.new.questions in
+    let asked = c.put_all.new.questions in
     let called : Called t calls made d = (c.begin-chart.ensures.made, c.begin-chart.ensures.left) in
     let same = c.begin-chart.ensures.setting in
     let settles = c.settle-chart.ensures.settled ∙ ap (λ x. settled (task x) room d) same in
-    let answers : AllAsked t e c.args.questions.now asked = subst (λ x. AllAsked (task x) e c.args.questions.now asked) (c.settle-chart.ensures.setting ∙ same) c.put-all.ensures in
+    let answers : AllAsked t e c.args.questions.now asked = subst (λ x. AllAsked (task x) e c.args.questions.now asked) (c.settle-chart.ensures.setting ∙ same) c.put_all.ensures in
     let (stands, settled) = rests t sound calls made d called e settles in
     let yes = c.if-not-settles.false in
     record {

@@ -26,5 +26,5 @@ pub returns : goal.returns
 returns g c =
     let t = wordless (g.G.Grammar.rules c.args.grammar.now) (g.W.Weighing.weights c.args.weighing.now) in
     let after = c.advance.new.table in
-    settles_at t (view c.args.table.now.places) (view c.loop.table.places) (view after.places) c.loop.invariant c.in-default.ensures.view
-    (finished_most after.places after.counted after.room) _ c.in-default.ensures.answer
+    settles_at t (view c.args.table.now.places) (view c.loop.table.places) (view after.places) c.loop.invariant c.in_default.ensures.view
+    (finished_most after.places after.counted after.room) _ c.in_default.ensures.answer

@@ -7,21 +7,21 @@ use Rattle.chart.proofs.Rounds.{left_none, left_some, left_nothing}
 use Rattle.chart.proofs.Staying.{same_arrive, stands_nothing, stands_meets}
 use Rattle.chart.proofs.stepping.place_arrivals.Goals as goal
 
-pub loop-at-preserved-in-default : goal.loop-at-preserved-in-default
-loop-at-preserved-in-default g c =
+pub loop-at-preserved-in_default : goal.loop-at-preserved-in_default
+loop-at-preserved-in_default g c =
     let ws = g.W.Weighing.weights c.args.weighing.now in
     let rules = g.G.Grammar.rules c.args.grammar.now in
     let s = c.args.finished in
     let ps = (view c.args.table.now.places).places in
     let now = view c.loop-at.table.places in
     let (left, same, named) = c.loop-at.invariant in (
-      left_none (place_brings rules ws s) ps ws.lighter c.loop-at.at now _ left (stands_nothing rules ws s ps now same c.loop-at.at c.in-default.ensures.stands),
+      left_none (place_brings rules ws s) ps ws.lighter c.loop-at.at now _ left (stands_nothing rules ws s ps now same c.loop-at.at c.in_default.ensures.stands),
       same,
       named,
     )
 
-pub loop-at-preserved-in-default-meet : goal.loop-at-preserved-in-default-meet
-loop-at-preserved-in-default-meet g c =
+pub loop-at-preserved-in_default-meet : goal.loop-at-preserved-in_default-meet
+loop-at-preserved-in_default-meet g c =
     let ws = g.W.Weighing.weights c.args.weighing.now in
     let rules = g.G.Grammar.rules c.args.grammar.now in
     let s = c.args.finished in
@@ -29,7 +29,7 @@ loop-at-preserved-in-default-meet g c =
     let now = view c.loop-at.table.places in
     let (left, same, named) = c.loop-at.invariant in
     let meets = stands_meets rules ws s ps now same c.loop-at.at c.in-Some.other c.in-Some.ensures.stands in
-    (left_none (place_brings rules ws s) ps ws.lighter c.loop-at.at now _ left (c.in-default-meet.ensures ∙ meets), same, named)
+    (left_none (place_brings rules ws s) ps ws.lighter c.loop-at.at now _ left (c.in_default-meet.ensures ∙ meets), same, named)
 
 pub loop-at-preserved : goal.loop-at-preserved
 loop-at-preserved g c =

@@ -5,12 +5,12 @@ use Rattle.chart.proofs.Naming.{named_arrive}
 use Rattle.chart.proofs.Rounds.{left_none, left_some, left_nothing}
 use Rattle.chart.proofs.stepping.rule_arrivals.Goals as goal
 
-pub loop-rule-preserved-in-default : goal.loop-rule-preserved-in-default
-loop-rule-preserved-in-default g c =
+pub loop-rule-preserved-in_default : goal.loop-rule-preserved-in_default
+loop-rule-preserved-in_default g c =
     let ws = g.W.Weighing.weights c.args.weighing.now in
     let rules = g.G.Grammar.rules c.args.grammar.now in
     let (left, named) = c.loop-rule.invariant in
-    (left_none (rule_brings ws c.args.finished) rules ws.lighter c.loop-rule.rule (view c.loop-rule.table.places) _ left c.in-default.ensures, named)
+    (left_none (rule_brings ws c.args.finished) rules ws.lighter c.loop-rule.rule (view c.loop-rule.table.places) _ left c.in_default.ensures, named)
 
 pub loop-rule-preserved : goal.loop-rule-preserved
 loop-rule-preserved g c =

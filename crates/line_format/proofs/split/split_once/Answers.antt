@@ -1,5 +1,5 @@
 use Rattle.std.proofs.Common.{subst}
-use native.Mathlib.Nat.{sub_zero}
+use native.Mathlib.Nat.{sub-zero}
 use Rattle.std.proofs.ByRecursion.{All-more}
 use Rattle.std.proofs.lemmas.List.{take_all, take_rest}
 use Rattle.std.proofs.lemmas.Bool.{ne_eqb}
@@ -9,7 +9,7 @@ use Rattle.line_format.proofs.split.split_once.Goals as goal
 
 pub returns-then-byte-separator : goal.returns-then-byte-separator
 returns-then-byte-separator c =
-    rw (sub_zero, take_rest)
+    rw (sub-zero, take_rest)
     record {
       first = c.loop-at.invariant;
       whole = split_at c.args.separator c.args.text.now c.loop-at.at c.loop-at-test.true c.if-byte-separator.true;

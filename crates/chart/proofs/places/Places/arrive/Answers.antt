@@ -10,7 +10,7 @@ returns-in-Some g c =
     let lighter = (g.W.Weighing.weights c.args.weighing.now).lighter in
     let found = c.in-Some.ensures in
     record {
-      view = slot_finished lighter c.args.arrival c.args.self.now c.if-self.false _ _ found.within found.place (sym c.is-open.ensures ∙ c.if-not-is-open.true);
+      view = slot_finished lighter c.args.arrival c.args.self.now c.if-self.false _ _ found.within found.place (sym c.is_open.ensures ∙ c.if-not-is_open.true);
       taken = search rules;
     }
 
@@ -21,7 +21,7 @@ returns-in-Some-2 g c =
     record {
       view =
           c.improve.ensures.view
-          ∙ slot_lighter lighter c.args.arrival c.args.self.now c.if-self.false _ _ found.within found.place (sym c.is-open.ensures ∙ c.if-not-is-open.false) (sym c.is-lighter.ensures ∙ c.if-is-lighter.true);
+          ∙ slot_lighter lighter c.args.arrival c.args.self.now c.if-self.false _ _ found.within found.place (sym c.is_open.ensures ∙ c.if-not-is_open.false) (sym c.is_lighter.ensures ∙ c.if-is_lighter.true);
       taken = search rules;
     }
 
@@ -30,7 +30,7 @@ returns-in-Some-3 g c =
     let lighter = (g.W.Weighing.weights c.args.weighing.now).lighter in
     let found = c.in-Some.ensures in
     record {
-      view = slot_heavier lighter c.args.arrival c.args.self.now c.if-self.false _ _ found.within found.place (sym c.is-lighter.ensures ∙ c.if-is-lighter.false);
+      view = slot_heavier lighter c.args.arrival c.args.self.now c.if-self.false _ _ found.within found.place (sym c.is_lighter.ensures ∙ c.if-is_lighter.false);
       taken = search rules;
     }
 
@@ -39,7 +39,7 @@ returns-in-None g c =
     let lighter = (g.W.Weighing.weights c.args.weighing.now).lighter in
     let p = c.args.self.now in
     let long : length (take p.taken p.slots) ≡ min p.taken (length p.slots) = length-take p.taken p.slots in
-    let free : p.taken < room = ltb-true p.taken room (sym c.has-room.ensures.room ∙ c.if-has-room.true) in
+    let free : p.taken < room = ltb-true p.taken room (sym c.has_room.ensures.room ∙ c.if-has_room.true) in
     record {
       view = c.put.ensures.view ∙ sym (arrive_new lighter c.args.arrival (view p) c.if-self.false (sym c.in-None.ensures.place) (omega arith));
       taken = search rules;
@@ -50,7 +50,7 @@ returns-in-None-2 g c =
     let lighter = (g.W.Weighing.weights c.args.weighing.now).lighter in
     let p = c.args.self.now in
     let long : length (take p.taken p.slots) ≡ min p.taken (length p.slots) = length-take p.taken p.slots in
-    let none : room ≤ p.taken = ltb-false p.taken room (sym c.has-room.ensures.room ∙ c.if-has-room.false) in
+    let none : room ≤ p.taken = ltb-false p.taken room (sym c.has_room.ensures.room ∙ c.if-has_room.false) in
     record {
       view = sym (arrive_full lighter c.args.arrival (view p) c.if-self.false (sym c.in-None.ensures.place) (omega arith));
       taken = search rules;

@@ -3,12 +3,12 @@ use Rattle.chart.proofs.Finding.{found_not, found_here, found_none}
 use Rattle.chart.proofs.places.Places.find.Goals as goal
 
 pub loop-i-preserved : goal.loop-i-preserved
-loop-i-preserved c = sym (found_not _ _ _ _ _ (omega arith) c.loop-i-test.true (sym c.is-same.ensures ∙ c.if-is-same.false)) ∙ c.loop-i.invariant
+loop-i-preserved c = sym (found_not _ _ _ _ _ (omega arith) c.loop-i-test.true (sym c.is_same.ensures ∙ c.if-is_same.false)) ∙ c.loop-i.invariant
 
-pub returns-then-is-same : goal.returns-then-is-same
-returns-then-is-same c =
+pub returns-then-is_same : goal.returns-then-is_same
+returns-then-is_same c =
     record {
-      place = sym (found_here _ _ _ _ _ (omega arith) c.loop-i-test.true (sym c.is-same.ensures ∙ c.if-is-same.true)) ∙ c.loop-i.invariant;
+      place = sym (found_here _ _ _ _ _ (omega arith) c.loop-i-test.true (sym c.is_same.ensures ∙ c.if-is_same.true)) ∙ c.loop-i.invariant;
       within = search rules;
     }
 

@@ -1,4 +1,4 @@
-use Rattle.std.proofs.Common.{Some, sym, ap, ◌∙◌, zero-add, add-one}
+use Rattle.std.proofs.Common.{sym, zero-add, add-one}
 use Rattle.lattice.proofs.TypedWords.{typed_at, typed_past}
 use Rattle.lattice.proofs.typed.TypedLineLattice.word.Goals as goal
 
