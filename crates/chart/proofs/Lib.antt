@@ -11,6 +11,7 @@ pub mod Nodes
 pub mod Naming
 pub mod Staying
 pub mod Settling
+pub mod Advancing
 pub mod Reaching
 pub mod Saying
 pub mod Turns

@@ -13,7 +13,7 @@ use Rattle.chart.specs.declared.setting.Setting.{Setting}
 use Rattle.chart.specs.View.{room}
 use Rattle.chart.specs.Stepping.{wordless}
 use Rattle.chart.specs.Charts.{task_of}
-use Rattle.chart.specs.Saying.{FromOpening, FromSettling, Goes_on, ComesToRest}
+use Rattle.chart.specs.Saying.{FromOpening, FromSettling, GoesOn, ComesToRest}
 use Rattle.chart.proofs.Nodes.{arrive_all-++}
 
 -- what a grammar, a lattice and a weighing show of themselves
@@ -73,7 +73,7 @@ module _ (t : Task) (s : Sound t) where
   pub opened_stands : (c : Chart) → c ≡ opened t room → Stands t c
   opened_stands c h = opening_stands c (opened_from c h)
 
-  pub step_goes_on : (b c : Chart) → c ≡ step t room b → Goes_on t b c
+  pub step_goes_on : (b c : Chart) → c ≡ step t room b → GoesOn t b c
   step_goes_on b c h (n, from) = let from_here : FromOpening t c = (n + 1, h ∙ ap (step t room) from ∙ one_more t n) in (from_here, opening_stands c from_here)
 
   pub settling_rests : (c : Chart) → FromSettling t c → Stands t c × Settled t room c

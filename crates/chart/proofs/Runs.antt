@@ -6,7 +6,6 @@ use Rattle.chart_model.specs.Plain.{Chart, is_stretch, carried, opened, step, se
 use Rattle.chart_model.specs.Stands.{Carries, Stands, Settled, Weighs, NoneLighter}
 use Rattle.chart_model.specs.declared.edge.Edge.TheVariants.{Passive}
 use Rattle.chart_model.proofs.Law.{law_of_the_lightest}
-use Rattle.chart.specs.declared.refusal.QuestionRefusal.{QuestionRefusal}
 use Rattle.chart.specs.declared.refusal.SettledRefusal.{SettledRefusal}
 use Rattle.chart.specs.declared.refusal.SettledRefusal.TheVariants.{NoStretch, NoDerivation, Full}
 use Rattle.chart.specs.declared.call.Call.{Call}
@@ -14,7 +13,7 @@ use Rattle.chart.specs.declared.call.Call.TheVariants.{Step, Question}
 use Rattle.chart.specs.declared.call.FinalQuestion.{FinalQuestion}
 use Rattle.chart.specs.Refusals.{question_number, settled_number, told}
 use Rattle.chart.specs.Saying.{FromOpening, FromSettling, asked, missing_from, SettledSays}
-use Rattle.chart.specs.Calls.{after_call, after_calls, Made, AllMade, Asked, AllAsked, LightestTold, TruthTold}
+use Rattle.chart.specs.Calls.{after_call, after_calls, Made, AllMade, AllAsked, LightestTold, TruthTold}
 use Rattle.chart.specs.View.{room}
 use Rattle.chart.proofs.Reaching.{opened_from, opening_stands, step_goes_on, settling_rests, settle_rests}
 use Rattle.chart.proofs.Saying.{settled_told, settled_says}

@@ -1,11 +1,12 @@
 -- Steps until one is refused. Assumes nothing.
-use Rattle.std.proofs.Common.{◌≡◌, ℕ, zero, suc, ◌+◌, ◌-◌, ◌<◌, ◌≤◌, Bool, true, false, ◌⊎◌, Some, None, Ok, Err, Option, Result, sym, refl, ap, ◌∙◌, subst, inl, inr, arith}
+use Rattle.std.proofs.Common.{◌≡◌, ℕ, zero, suc, ◌-◌, ◌≤◌, Bool, true, false, ◌⊎◌, Some, None, Ok, Err, Option, Result, sym, refl, ap, ◌∙◌, inl, inr, arith}
 use Rattle.chart_model.specs.Task.{Task}
 use Rattle.chart_model.specs.Plain.{Chart, done, finishing, arrivals, step, step_answer, steps, settled}
 use Rattle.chart_model.specs.Standings.{lightest_standing, completed}
 use Rattle.chart_model.specs.declared.place.Standing.{Standing}
 use Rattle.chart_model.proofs.Arriving.{arrive_all_count}
 use Rattle.chart_model.proofs.Lightest.{done_within}
+use Rattle.chart_model.proofs.Standings.{step_finds, answer_finds}
 use Rattle.chart.specs.declared.places.Places.{Places}
 use Rattle.chart.specs.View.{room, view}
 use Rattle.chart.proofs.Keeping.{view_within}
@@ -17,15 +18,16 @@ finished_most p counted fits =
     let long = view_within p in
     omega arith
 
+-- a refusal is no answer
+pub err_ok : {m n : ℕ} → ◌≡◌ {A = Result ℕ ℕ} (Err m) (Ok n) → ⊥
+err_ok e = let z : ◌≡◌ {A = ℕ} 0 1 = cc in omega arith
+
 module _ (t : Task) where
   -- what a step does and answers: nothing, refused; or it finishes one edge more, and is refused if the chart is full then
   abbrev Ways : Chart → Chart → Result ℕ ℕ → Type 0
   Ways c d answer =
       ((d ≡ c) × ((n : ℕ) → answer ≡ Ok n → ⊥))
       ⊎ ((d.finished ≡ suc c.finished) × (answer ≡ elim d.full as (λ _. Result ℕ ℕ) [ true ↦ Err 10 | false ↦ Ok d.finished ]))
-
-  err_ok : {m n : ℕ} → ◌≡◌ {A = Result ℕ ℕ} (Err m) (Ok n) → ⊥
-  err_ok e = let z : ◌≡◌ {A = ℕ} 0 1 = cc in omega arith
 
   counted : (c : Chart) (s : Standing) → (completed t room c s).finished ≡ suc c.finished
   counted c s = arrive_all_count room t.weights.lighter (arrivals t s (finishing c s.at).places) (finishing c s.at)
@@ -38,17 +40,17 @@ module _ (t : Task) where
   answered d b o = elim b [ true ↦ Err 10 | false ↦ elim o [ None ↦ Err 11 | Some s ↦ elim d.full [ true ↦ Err 10 | false ↦ Ok d.finished ] ] ]
 
   ways : (c : Chart) → Ways c (step t room c) (step_answer t room c)
-  ways c = go c.full (lightest_standing t.weights.lighter c.places)
+  ways c = go c.full (lightest_standing t.weights.lighter c.places) (step t room c) (step_answer t room c) (step_finds t room c) (answer_finds t room c)
     where
-      go : (b : Bool) (o : Option Standing) → Ways c (stepped c b o) (answered (stepped c b o) b o)
-      go true o = inl (refl, λ n e. err_ok e)
-      go false None = inl (refl, λ n e. err_ok e)
-      go false (Some s) = inr (counted c s, refl)
+      go : (b : Bool) (o : Option Standing) (d : Chart) (r : Result ℕ ℕ) → d ≡ stepped c b o → r ≡ answered d b o → Ways c d r
+      go true o d r now answer = inl (now, λ n e. err_ok (sym answer ∙ e))
+      go false None d r now answer = inl (now, λ n e. err_ok (sym answer ∙ e))
+      go false (Some s) d r now answer = inr (ap (λ (x : Chart). x.finished) now ∙ counted c s, answer)
 
   -- a full chart takes no step
   full_stays : (c : Chart) → c.full ≡ true → step t room c ≡ c
   full_stays c full =
-      ap (λ b. stepped c b (lightest_standing t.weights.lighter c.places)) full
+      step_finds t room c ∙ ap (λ b. stepped c b (lightest_standing t.weights.lighter c.places)) full
 
   -- a step that is not refused finishes one edge more
   pub goes_on : (c d : Chart) (n : ℕ) → d ≡ step t room c → Ok n ≡ step_answer t room c → d.finished ≡ suc c.finished

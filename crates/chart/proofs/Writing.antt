@@ -1,6 +1,6 @@
 -- What a write to a slot leaves of the taken places. Assumes nothing.
 use Rattle.std.proofs.Common.{◌≡◌, ℕ, zero, suc, List, [], ◌∷◌, get_or, take, set, refl, ap, ◌∙◌}
-use Rattle.chart_model.specs.Plain.{lightened, ended, modified}
+use Rattle.chart_model.specs.Plain.{lightened, modified}
 use Rattle.chart_model.specs.declared.origin.Origin.{Origin}
 use Rattle.chart_model.specs.declared.place.Arrival.{Arrival}
 use Rattle.chart_model.specs.declared.place.Place.{Place}

@@ -24,8 +24,8 @@ abbrev pub FromSettling : Task → Chart → Type 0
 FromSettling t c = (n : ℕ) × (c ≡ settled t room (after t room n))
 
 -- a chart that comes from opening and steps has become another, which does so too and stands
-abbrev pub Goes_on : Task → Chart → Chart → Type 0
-Goes_on t before after = FromOpening t before → FromOpening t after × Stands t after
+abbrev pub GoesOn : Task → Chart → Chart → Type 0
+GoesOn t before after = FromOpening t before → FromOpening t after × Stands t after
 
 -- it has been settled: it stands, and is full exactly where too many edges have derivations
 abbrev pub ComesToRest : Task → Chart → Chart → Type 0

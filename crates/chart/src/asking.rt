@@ -12,7 +12,7 @@ use lattice::Lattice;
 
 // Whether a stretch runs forward, or stays, up to the last node.
 fn is_stretch<L: Lattice>(lattice: &L, from: u8, to: u8) -> bool
-    ensures { result ≡ is_stretch (last lattice.now) from to }
+    ensures { result ≡ is_stretch (L.last lattice.now) from to }
 {
     from <= to && to <= lattice.last_node()
 }
@@ -27,7 +27,7 @@ pub(crate) fn locate<L: Lattice, E: Drop>(
     outside: E,
     missing: E,
 ) -> Result<Standing, E>
-    ensures located { result ≡ located outside missing (last lattice.now) (held table.now) symbol from to }
+    ensures located { result ≡ located outside missing (L.last lattice.now) (held table.now) symbol from to }
     ensures earlier { IfOk result (λ s. earlier (held table.now).places (suc (held table.now).finished) s.at ≡ true) }
 {
     if !is_stretch(lattice, from, to) {
@@ -49,7 +49,7 @@ pub(crate) fn ask<L: Lattice, E: Drop>(
     outside: E,
     missing: E,
 ) -> Result<u64, E>
-    ensures { result ≡ asked outside missing (last lattice.now) (held table.now) symbol from to }
+    ensures { result ≡ asked outside missing (L.last lattice.now) (held table.now) symbol from to }
 {
     match locate(lattice, table, symbol, from, to, outside, missing) {
         Ok(found) => Ok(found.weight),

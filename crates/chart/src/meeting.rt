@@ -11,7 +11,7 @@ use weighing::Weighing;
 
 // A rule with its first symbols over a stretch; with all of them, its left symbol.
 fn reached<G: Grammar>(grammar: &G, rule: u8, seen: u8, from: u8, to: u8) -> Option<Edge>
-    ensures { result ≡ reached_by (rules grammar.now) rule seen from to }
+    ensures { result ≡ reached_by (G.rules grammar.now) rule seen from to }
 {
     let Some(length) = grammar.length(rule as usize) else {
         return None;
@@ -37,7 +37,7 @@ pub(crate) fn begin<G: Grammar, W: Weighing>(
     rule: u8,
     child: Standing,
 ) -> Option<Arrival>
-    ensures { result ≡ brought_by (rule_brings (weights weighing.now) child) (rules grammar.now) rule }
+    ensures { result ≡ brought_by (rule_brings (W.weights weighing.now) child) (G.rules grammar.now) rule }
 {
     let Edge::Passive { symbol, from, to } = child.edge else {
         return None;
@@ -73,7 +73,7 @@ fn take<G: Grammar, W: Weighing>(
     active: Standing,
     child: Standing,
 ) -> Option<Arrival>
-    ensures { result ≡ takes (rules grammar.now) (weights weighing.now) active child }
+    ensures { result ≡ takes (G.rules grammar.now) (W.weights weighing.now) active child }
 {
     let Edge::Active {
         rule,
@@ -123,7 +123,7 @@ pub(crate) fn meet<G: Grammar, W: Weighing>(
     one: Standing,
     other: Standing,
 ) -> Option<Arrival>
-    ensures { result ≡ meet (rules grammar.now) (weights weighing.now) one other }
+    ensures { result ≡ meet (G.rules grammar.now) (W.weights weighing.now) one other }
 {
     take(grammar, weighing, one, other).or(take(grammar, weighing, other, one))
 }

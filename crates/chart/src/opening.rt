@@ -14,7 +14,7 @@ use weighing::Weighing;
 
 // What a word brings.
 fn word<L: Lattice, W: Weighing>(lattice: &L, weighing: &W, n: u8) -> Option<Arrival>
-    ensures { result ≡ brought_by (word_brings (weights weighing.now)) (words lattice.now) n }
+    ensures { result ≡ brought_by (word_brings (W.weights weighing.now)) (L.words lattice.now) n }
 {
     let Some(word) = lattice.word(n as usize) else {
         return None;
@@ -33,7 +33,7 @@ fn word<L: Lattice, W: Weighing>(lattice: &L, weighing: &W, n: u8) -> Option<Arr
 
 // What a rule without right symbols brings at a node.
 fn empty<G: Grammar, W: Weighing>(grammar: &G, weighing: &W, node: u8, rule: u8) -> Option<Arrival>
-    ensures { result ≡ brought_by (empty_brings (weights weighing.now) node) (rules grammar.now) rule }
+    ensures { result ≡ brought_by (empty_brings (W.weights weighing.now) node) (G.rules grammar.now) rule }
 {
     let Some(0) = grammar.length(rule as usize) else {
         return None;
@@ -58,7 +58,7 @@ fn empty<G: Grammar, W: Weighing>(grammar: &G, weighing: &W, node: u8, rule: u8)
 
 // The words arrive, in order.
 pub(crate) fn word_arrivals<L: Lattice, W: Weighing>(table: &mut Table, lattice: &L, weighing: &W)
-    ensures { view table.new.places ≡ arrive_all room (weights weighing.now).lighter (view table.old.places) (gathered (word_brings (weights weighing.now)) 0 (words lattice.now)) }
+    ensures { view table.new.places ≡ arrive_all room (W.weights weighing.now).lighter (view table.old.places) (gathered (word_brings (W.weights weighing.now)) 0 (L.words lattice.now)) }
 {
     for n in 0..lattice.len() {
         let Some(arrival) = word(lattice, weighing, n as u8) else {
@@ -70,7 +70,7 @@ pub(crate) fn word_arrivals<L: Lattice, W: Weighing>(table: &mut Table, lattice:
 
 // The rules without right symbols arrive at a node, in order.
 fn empty_arrivals<G: Grammar, W: Weighing>(table: &mut Table, grammar: &G, weighing: &W, node: u8)
-    ensures { view table.new.places ≡ arrive_all room (weights weighing.now).lighter (view table.old.places) (gathered (empty_brings (weights weighing.now) node) 0 (rules grammar.now)) }
+    ensures { view table.new.places ≡ arrive_all room (W.weights weighing.now).lighter (view table.old.places) (gathered (empty_brings (W.weights weighing.now) node) 0 (G.rules grammar.now)) }
 {
     for rule in 0..grammar.len() {
         let Some(arrival) = empty(grammar, weighing, node, rule as u8) else {
@@ -87,7 +87,7 @@ pub(crate) fn node_arrivals<G: Grammar, W: Weighing>(
     weighing: &W,
     last: u8,
 )
-    ensures { view table.new.places ≡ arrive_all room (weights weighing.now).lighter (view table.old.places) (nodes_bring (weights weighing.now) (rules grammar.now) 0 (suc last)) }
+    ensures { view table.new.places ≡ arrive_all room (W.weights weighing.now).lighter (view table.old.places) (nodes_bring (W.weights weighing.now) (G.rules grammar.now) 0 (suc last)) }
 {
     for node in 0..=last {
         empty_arrivals(table, grammar, weighing, node);

@@ -53,7 +53,7 @@ pub(crate) fn seen(at: usize, place: Place) -> Standing
 
 // An open edge, or one after it if that is lighter.
 fn lighter_of<W: Weighing>(weighing: &W, edge: Standing, later: Option<Standing>) -> Standing
-    ensures { Some result ≡ lighter_standing (weights weighing.now).lighter edge later }
+    ensures { Some result ≡ lighter_standing (W.weights weighing.now).lighter edge later }
 {
     match later {
         Some(found) if weighing.is_lighter(found.weight, edge.weight) => found,
@@ -115,7 +115,7 @@ impl Places {
     // The lightest open edge, at the lowest place among equals.
     pub(crate) fn lightest<W: Weighing>(&self, weighing: &W) -> Option<Standing>
         requires { self.now.taken ≤ room }
-        ensures { result ≡ lightest_standing (weights weighing.now).lighter (view self.now).places }
+        ensures { result ≡ lightest_standing (W.weights weighing.now).lighter (view self.now).places }
     {
         let mut best = None;
         for i in (0..self.taken).rev() {
@@ -174,7 +174,7 @@ impl Places {
     // Brings a weight and an origin to an edge.
     pub(crate) fn arrive<W: Weighing>(&mut self, weighing: &W, arrival: Arrival)
         requires { self.old.taken ≤ room }
-        ensures view { view self.new ≡ arrive_plain room (weights weighing.now).lighter (view self.old) arrival }
+        ensures view { view self.new ≡ arrive_plain room (W.weights weighing.now).lighter (view self.old) arrival }
         ensures taken { self.new.taken ≤ room }
     {
         if self.full {

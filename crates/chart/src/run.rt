@@ -16,8 +16,8 @@ use weighing::Weighing;
 
 // Makes a call, and gives it back with its answer.
 fn make<G: Grammar, L: Lattice, W: Weighing>(chart: &mut WorkingChart<G, L, W>, call: Call) -> Call
-    ensures made { Made (task_of rules last words weights chart.old.setting) (held chart.old.table) call result }
-    ensures left { held chart.new.table ≡ after_call (task_of rules last words weights chart.old.setting) call (held chart.old.table) }
+    ensures made { Made (task_of G.rules L.last L.words W.weights chart.old.setting) (held chart.old.table) call result }
+    ensures left { held chart.new.table ≡ after_call (task_of G.rules L.last L.words W.weights chart.old.setting) call (held chart.old.table) }
     ensures setting { chart.new.setting ≡ chart.old.setting }
 {
     match call {
@@ -43,8 +43,8 @@ fn make_all<G: Grammar, L: Lattice, W: Weighing>(
     chart: &mut WorkingChart<G, L, W>,
     calls: &mut [Call],
 )
-    ensures made { AllMade (task_of rules last words weights chart.old.setting) (held chart.old.table) calls.old calls.new }
-    ensures left { held chart.new.table ≡ after_calls (task_of rules last words weights chart.old.setting) calls.old (held chart.old.table) }
+    ensures made { AllMade (task_of G.rules L.last L.words W.weights chart.old.setting) (held chart.old.table) calls.old calls.new }
+    ensures left { held chart.new.table ≡ after_calls (task_of G.rules L.last L.words W.weights chart.old.setting) calls.old (held chart.old.table) }
     ensures setting { chart.new.setting ≡ chart.old.setting }
 {
     for i in 0..calls.len() {
@@ -57,7 +57,7 @@ fn put<G: Grammar, L: Lattice, W: Weighing>(
     chart: &SettledChart<G, L, W>,
     question: FinalQuestion,
 ) -> FinalQuestion
-    ensures { Asked (task_of rules last words weights chart.now.setting) (held chart.now.table) question result }
+    ensures { Asked (task_of G.rules L.last L.words W.weights chart.now.setting) (held chart.now.table) question result }
 {
     let answer = chart.question(question.symbol, question.from, question.to);
     FinalQuestion {
@@ -71,7 +71,7 @@ fn put_all<G: Grammar, L: Lattice, W: Weighing>(
     chart: &SettledChart<G, L, W>,
     questions: &mut [FinalQuestion],
 )
-    ensures { AllAsked (task_of rules last words weights chart.now.setting) (held chart.now.table) questions.old questions.new }
+    ensures { AllAsked (task_of G.rules L.last L.words W.weights chart.now.setting) (held chart.now.table) questions.old questions.new }
 {
     for i in 0..questions.len() {
         questions[i] = put(chart, questions[i]);
@@ -85,8 +85,8 @@ fn begin<G: Grammar, L: Lattice, W: Weighing>(
     weighing: W,
     calls: &mut [Call],
 ) -> WorkingChart<G, L, W>
-    ensures made { AllMade (task_of rules last words weights (over grammar lattice weighing)) (opened (task_of rules last words weights (over grammar lattice weighing)) room) calls.old calls.new }
-    ensures left { held result.table ≡ after_calls (task_of rules last words weights (over grammar lattice weighing)) calls.old (opened (task_of rules last words weights (over grammar lattice weighing)) room) }
+    ensures made { AllMade (task_of G.rules L.last L.words W.weights (over grammar lattice weighing)) (opened (task_of G.rules L.last L.words W.weights (over grammar lattice weighing)) room) calls.old calls.new }
+    ensures left { held result.table ≡ after_calls (task_of G.rules L.last L.words W.weights (over grammar lattice weighing)) calls.old (opened (task_of G.rules L.last L.words W.weights (over grammar lattice weighing)) room) }
     ensures setting { result.setting ≡ over grammar lattice weighing }
 {
     let mut chart = WorkingChart::open(grammar, lattice, weighing);
@@ -103,13 +103,13 @@ pub fn run<G: Grammar + Drop, L: Lattice + Drop, W: Weighing + Drop>(
     settles: bool,
     questions: &mut [FinalQuestion],
 ) -> Outcome
-    ensures stands { Stands (task_of rules last words weights (over grammar lattice weighing)) (held result.table) }
-    ensures settled { settles ≡ true → Settled (task_of rules last words weights (over grammar lattice weighing)) room (held result.table) }
-    ensures lightest { LightestTold (task_of rules last words weights (over grammar lattice weighing)) calls.new }
-    ensures truth { settles ≡ true → TruthTold (task_of rules last words weights (over grammar lattice weighing)) (held result.table) questions.new }
-    ensures called { held result.table ≡ run_chart (task_of rules last words weights (over grammar lattice weighing)) calls.old settles }
-    ensures made { AllMade (task_of rules last words weights (over grammar lattice weighing)) (opened (task_of rules last words weights (over grammar lattice weighing)) room) calls.old calls.new }
-    ensures asked { Questioned (task_of rules last words weights (over grammar lattice weighing)) settles (held result.table) questions.old questions.new }
+    ensures stands { Stands (task_of G.rules L.last L.words W.weights (over grammar lattice weighing)) (held result.table) }
+    ensures settled { settles ≡ true → Settled (task_of G.rules L.last L.words W.weights (over grammar lattice weighing)) room (held result.table) }
+    ensures lightest { LightestTold (task_of G.rules L.last L.words W.weights (over grammar lattice weighing)) calls.new }
+    ensures truth { settles ≡ true → TruthTold (task_of G.rules L.last L.words W.weights (over grammar lattice weighing)) (held result.table) questions.new }
+    ensures called { held result.table ≡ run_chart (task_of G.rules L.last L.words W.weights (over grammar lattice weighing)) calls.old settles }
+    ensures made { AllMade (task_of G.rules L.last L.words W.weights (over grammar lattice weighing)) (opened (task_of G.rules L.last L.words W.weights (over grammar lattice weighing)) room) calls.old calls.new }
+    ensures asked { Questioned (task_of G.rules L.last L.words W.weights (over grammar lattice weighing)) settles (held result.table) questions.old questions.new }
 {
     let chart = begin(grammar, lattice, weighing, calls);
     if !settles {

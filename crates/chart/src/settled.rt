@@ -34,8 +34,8 @@ impl<G: Grammar, L: Lattice, W: Weighing> SettledChart<G, L, W> {
 
     // The weight of a symbol over a stretch, or that it has no derivation, or that the chart is full without it.
     pub fn question(&self, symbol: u8, from: u8, to: u8) -> Result<u64, SettledRefusal>
-        ensures answer { told settled_number result ≡ settled_answer (task_of rules last words weights self.now.setting) (held self.now.table) symbol from to }
-        ensures says { FromSettling (task_of rules last words weights self.now.setting) (held self.now.table) → SettledSays (task_of rules last words weights self.now.setting) (held self.now.table) symbol from to result }
+        ensures answer { told settled_number result ≡ settled_answer (task_of G.rules L.last L.words W.weights self.now.setting) (held self.now.table) symbol from to }
+        ensures says { FromSettling (task_of G.rules L.last L.words W.weights self.now.setting) (held self.now.table) → SettledSays (task_of G.rules L.last L.words W.weights self.now.setting) (held self.now.table) symbol from to result }
     {
         ask(
             &self.setting.lattice,

@@ -21,7 +21,7 @@ fn rule_arrivals<G: Grammar, W: Weighing>(
     finished: Standing,
 )
     requires { earlier (view table.old.places).places (suc table.old.places.finished) finished.at ≡ true }
-    ensures { view table.new.places ≡ arrive_all room (weights weighing.now).lighter (view table.old.places) (gathered (rule_brings (weights weighing.now) finished) 0 (rules grammar.now)) }
+    ensures { view table.new.places ≡ arrive_all room (W.weights weighing.now).lighter (view table.old.places) (gathered (rule_brings (W.weights weighing.now) finished) 0 (G.rules grammar.now)) }
 {
     for rule in 0..grammar.len() {
         let Some(arrival) = begin(grammar, weighing, rule as u8, finished) else {
@@ -39,7 +39,7 @@ fn place_arrivals<G: Grammar, W: Weighing>(
     finished: Standing,
 )
     requires { earlier (view table.old.places).places (suc table.old.places.finished) finished.at ≡ true }
-    ensures { view table.new.places ≡ arrive_all room (weights weighing.now).lighter (view table.old.places) (gathered (place_brings (rules grammar.now) (weights weighing.now) finished) 0 (view table.old.places).places) }
+    ensures { view table.new.places ≡ arrive_all room (W.weights weighing.now).lighter (view table.old.places) (gathered (place_brings (G.rules grammar.now) (W.weights weighing.now) finished) 0 (view table.old.places).places) }
 {
     for at in 0..table.len() {
         let Some(other) = table.finished_at(at) else {
@@ -55,7 +55,7 @@ fn place_arrivals<G: Grammar, W: Weighing>(
 // All that follows from the finished edge arrives.
 fn spread<G: Grammar, W: Weighing>(table: &mut Table, grammar: &G, weighing: &W, finished: Standing)
     requires { earlier (view table.old.places).places (suc table.old.places.finished) finished.at ≡ true }
-    ensures { view table.new.places ≡ arrive_all room (weights weighing.now).lighter (view table.old.places) (arrivals (wordless (rules grammar.now) (weights weighing.now)) finished (view table.old.places).places) }
+    ensures { view table.new.places ≡ arrive_all room (W.weights weighing.now).lighter (view table.old.places) (arrivals (wordless (G.rules grammar.now) (W.weights weighing.now)) finished (view table.old.places).places) }
 {
     rule_arrivals(table, grammar, weighing, finished);
     place_arrivals(table, grammar, weighing, finished);
@@ -77,8 +77,8 @@ pub(crate) fn advance<G: Grammar, W: Weighing>(
     grammar: &G,
     weighing: &W,
 ) -> Result<u16, StepRefusal>
-    ensures view { view table.new.places ≡ step (wordless (rules grammar.now) (weights weighing.now)) room (view table.old.places) }
-    ensures answer { told step_number result ≡ step_answer (wordless (rules grammar.now) (weights weighing.now)) room (view table.old.places) }
+    ensures view { view table.new.places ≡ step (wordless (G.rules grammar.now) (W.weights weighing.now)) room (view table.old.places) }
+    ensures answer { told step_number result ≡ step_answer (wordless (G.rules grammar.now) (W.weights weighing.now)) room (view table.old.places) }
 {
     count_unless_full(table)?;
     let Some(finished) = table.finish_lightest(weighing) else {
@@ -90,7 +90,7 @@ pub(crate) fn advance<G: Grammar, W: Weighing>(
 
 // Takes steps until one is refused.
 pub(crate) fn advance_all<G: Grammar, W: Weighing>(table: &mut Table, grammar: &G, weighing: &W)
-    ensures { view table.new.places ≡ settled (wordless (rules grammar.now) (weights weighing.now)) room (view table.old.places) }
+    ensures { view table.new.places ≡ settled (wordless (G.rules grammar.now) (W.weights weighing.now)) room (view table.old.places) }
 {
     while let Ok(_) = advance(table, grammar, weighing) {}
 }

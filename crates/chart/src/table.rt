@@ -96,14 +96,14 @@ impl Table {
     // Brings a weight and an origin to an edge.
     pub(crate) fn arrive<W: Weighing>(&mut self, weighing: &W, arrival: Arrival)
         requires { names_earlier (view self.old.places).places (suc self.old.places.finished) arrival.origin ≡ true }
-        ensures { view self.new.places ≡ arrive_plain room (weights weighing.now).lighter (view self.old.places) arrival }
+        ensures { view self.new.places ≡ arrive_plain room (W.weights weighing.now).lighter (view self.old.places) arrival }
     {
         self.places.arrive(weighing, arrival);
     }
 
     // Finishes the lightest open edge, at the lowest place among equals.
     pub(crate) fn finish_lightest<W: Weighing>(&mut self, weighing: &W) -> Option<Standing>
-        ensures lightest { result ≡ lightest_standing (weights weighing.now).lighter (view self.old.places).places }
+        ensures lightest { result ≡ lightest_standing (W.weights weighing.now).lighter (view self.old.places).places }
         ensures view { view self.new.places ≡ finishing_next (view self.old.places) result }
         ensures earlier { IfSome result (λ s. earlier (view self.new.places).places (suc self.new.places.finished) s.at ≡ true) }
     {

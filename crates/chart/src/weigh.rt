@@ -21,8 +21,8 @@ pub fn weigh<G: Grammar + Drop, L: Lattice + Drop, W: Weighing + Drop>(
     from: u8,
     to: u8,
 ) -> Result<u64, SettledRefusal>
-    ensures answer { told settled_number result ≡ settled_answer (task_of rules last words weights (over grammar lattice weighing)) (settled (task_of rules last words weights (over grammar lattice weighing)) room (opened (task_of rules last words weights (over grammar lattice weighing)) room)) symbol from to }
-    ensures says { SettledSays (task_of rules last words weights (over grammar lattice weighing)) (settled (task_of rules last words weights (over grammar lattice weighing)) room (opened (task_of rules last words weights (over grammar lattice weighing)) room)) symbol from to result }
+    ensures answer { told settled_number result ≡ settled_answer (task_of G.rules L.last L.words W.weights (over grammar lattice weighing)) (settled (task_of G.rules L.last L.words W.weights (over grammar lattice weighing)) room (opened (task_of G.rules L.last L.words W.weights (over grammar lattice weighing)) room)) symbol from to }
+    ensures says { SettledSays (task_of G.rules L.last L.words W.weights (over grammar lattice weighing)) (settled (task_of G.rules L.last L.words W.weights (over grammar lattice weighing)) room (opened (task_of G.rules L.last L.words W.weights (over grammar lattice weighing)) room)) symbol from to result }
 {
     let chart = WorkingChart::open(grammar, lattice, weighing).settle();
     chart.question(symbol, from, to)

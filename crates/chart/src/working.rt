@@ -5,7 +5,7 @@ ghost use Rattle.chart_model.specs.Stands.{Stands};
 ghost use Rattle.chart.specs.View.{room};
 ghost use Rattle.chart.specs.Charts.{over, task_of, held};
 ghost use Rattle.chart.specs.Refusals.{step_number, question_number, told};
-ghost use Rattle.chart.specs.Saying.{FromOpening, Goes_on, ComesToRest, WorkingSays};
+ghost use Rattle.chart.specs.Saying.{FromOpening, GoesOn, ComesToRest, WorkingSays};
 
 use crate::asking::ask;
 use crate::opening::{node_arrivals, word_arrivals};
@@ -29,8 +29,8 @@ impl<G: Grammar, L: Lattice, W: Weighing> WorkingChart<G, L, W> {
     // Opens a chart, which is never refused: the words arrive, and then, node by node, the rules without right symbols.
     pub fn open(grammar: G, lattice: L, weighing: W) -> Self
         ensures setting { result.setting ≡ over grammar lattice weighing }
-        ensures opened { held result.table ≡ opened (task_of rules last words weights (over grammar lattice weighing)) room }
-        ensures stands { Stands (task_of rules last words weights (over grammar lattice weighing)) (held result.table) }
+        ensures opened { held result.table ≡ opened (task_of G.rules L.last L.words W.weights (over grammar lattice weighing)) room }
+        ensures stands { Stands (task_of G.rules L.last L.words W.weights (over grammar lattice weighing)) (held result.table) }
     {
         let mut table = Table::new();
         word_arrivals(&mut table, &lattice, &weighing);
@@ -45,9 +45,9 @@ impl<G: Grammar, L: Lattice, W: Weighing> WorkingChart<G, L, W> {
 
     // Finishes the lightest open edge, and answers how many edges are finished.
     pub fn step(&mut self) -> Result<u16, StepRefusal>
-        ensures stepped { held self.new.table ≡ step_plain (task_of rules last words weights self.old.setting) room (held self.old.table) }
-        ensures answer { told step_number result ≡ step_answer (task_of rules last words weights self.old.setting) room (held self.old.table) }
-        ensures stands { Goes_on (task_of rules last words weights self.old.setting) (held self.old.table) (held self.new.table) }
+        ensures stepped { held self.new.table ≡ step_plain (task_of G.rules L.last L.words W.weights self.old.setting) room (held self.old.table) }
+        ensures answer { told step_number result ≡ step_answer (task_of G.rules L.last L.words W.weights self.old.setting) room (held self.old.table) }
+        ensures stands { GoesOn (task_of G.rules L.last L.words W.weights self.old.setting) (held self.old.table) (held self.new.table) }
         ensures setting { self.new.setting ≡ self.old.setting }
     {
         advance(
@@ -59,8 +59,8 @@ impl<G: Grammar, L: Lattice, W: Weighing> WorkingChart<G, L, W> {
 
     // The weight of a symbol over a stretch, if it is finished.
     pub fn question(&self, symbol: u8, from: u8, to: u8) -> Result<u64, QuestionRefusal>
-        ensures answer { told question_number result ≡ working_answer (task_of rules last words weights self.now.setting) (held self.now.table) symbol from to }
-        ensures says { FromOpening (task_of rules last words weights self.now.setting) (held self.now.table) → WorkingSays (task_of rules last words weights self.now.setting) (held self.now.table) symbol from to result }
+        ensures answer { told question_number result ≡ working_answer (task_of G.rules L.last L.words W.weights self.now.setting) (held self.now.table) symbol from to }
+        ensures says { FromOpening (task_of G.rules L.last L.words W.weights self.now.setting) (held self.now.table) → WorkingSays (task_of G.rules L.last L.words W.weights self.now.setting) (held self.now.table) symbol from to result }
     {
         ask(
             &self.setting.lattice,
@@ -75,8 +75,8 @@ impl<G: Grammar, L: Lattice, W: Weighing> WorkingChart<G, L, W> {
 
     // Takes steps until one is refused.
     pub fn settle(self) -> SettledChart<G, L, W>
-        ensures settled { held result.table ≡ settled (task_of rules last words weights self.setting) room (held self.table) }
-        ensures stands { ComesToRest (task_of rules last words weights self.setting) (held self.table) (held result.table) }
+        ensures settled { held result.table ≡ settled (task_of G.rules L.last L.words W.weights self.setting) room (held self.table) }
+        ensures stands { ComesToRest (task_of G.rules L.last L.words W.weights self.setting) (held self.table) (held result.table) }
         ensures setting { result.setting ≡ self.setting }
     {
         let WorkingChart { setting, mut table } = self;

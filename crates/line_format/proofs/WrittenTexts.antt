@@ -1,7 +1,7 @@
 -- A text is read as words exactly if it writes them. Assumes nothing.
 use Rattle.std.proofs.Common.{◌≡◌, ℕ, zero, suc, ◌≤◌, Bool, true, false, eqb, ◌⊎◌, List, [], ◌∷◌, ◌++◌, map, length, Some, None, Ok, Err, Option, Result, sym, refl, ap, ◌∙◌, subst, inl, inr, ⊎_elim, arith}
 use Rattle.std.specs.Result.{result_map_both}
-use Rattle.std.specs.List.{AllByRecursion as All}
+use Rattle.std.specs.List.{AllByRecursion}
 use Rattle.std.proofs.lemmas.Bool.{eqb-true}
 use Rattle.lattice.specs.declared.word.Word.{Word}
 use Rattle.line_format.specs.Lines.{line_feed, onto, lines, line_word, lines_words, text_words, most_lines}
@@ -13,18 +13,18 @@ use Rattle.line_format.proofs.WrittenLines.{line_written, line_read, written_som
 
 -- WHAT IS WRITTEN IS READ
 
-lines_ended : (ws : List Word) → All InRange ws → lines (ended ws) ≡ map written ws
+lines_ended : (ws : List Word) → AllByRecursion InRange ws → lines (ended ws) ≡ map written ws
 lines_ended [] r = refl
 lines_ended (w ∷ ws) r =
     first_line (record { first = written_without w r.0; whole = refl }) ∙ ap (λ ls. written w ∷ ls) (lines_ended ws r.1)
 
-lines_unended : (ws : List Word) → All InRange ws → lines (unended ws) ≡ map written ws
+lines_unended : (ws : List Word) → AllByRecursion InRange ws → lines (unended ws) ≡ map written ws
 lines_unended [] r = refl
 lines_unended (w ∷ []) r = only_line (written w) (written_some w) (written_without w r.0)
 lines_unended (w ∷ v ∷ ws) r =
     first_line (record { first = written_without w r.0; whole = refl }) ∙ ap (λ ls. written w ∷ ls) (lines_unended (v ∷ ws) r.1)
 
-lines_read : (room : ℕ) (ws : List Word) → All InRange ws → length ws ≤ room → lines_words room (map written ws) ≡ Ok ws
+lines_read : (room : ℕ) (ws : List Word) → AllByRecursion InRange ws → length ws ≤ room → lines_words room (map written ws) ≡ Ok ws
 lines_read room [] r few = refl
 lines_read zero (w ∷ ws) r few = absurd (omega arith)
 lines_read (suc room) (w ∷ ws) r few =
@@ -40,7 +40,7 @@ written_read ws text writes =
 
 -- what a result of reading says of lines, where there is room for so many
 abbrev LinesOf : ℕ → List (List ℕ) → List Word → Type 0
-LinesOf room ls ws = (ls ≡ map written ws) × All InRange ws × (length ws ≤ room)
+LinesOf room ls ws = (ls ≡ map written ws) × AllByRecursion InRange ws × (length ws ≤ room)
 
 one_more : (room : ℕ) (l : List ℕ) (ls : List (List ℕ)) (w : Word) (vs ws : List Word) → line_word l ≡ Some w → w ∷ vs ≡ ws → LinesOf room ls vs → LinesOf (suc room) (l ∷ ls) ws
 one_more room l ls w vs ws found same rest =

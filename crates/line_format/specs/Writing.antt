@@ -1,6 +1,6 @@
 -- How words are written, and what reading is to writing. Assumes nothing.
 use Rattle.std.specs.Prelude.{◌≡◌, ℕ, ◌+◌, ◌*◌, ◌<◌, ◌≤◌, ◌⊎◌, List, [], ◌∷◌, ◌++◌, length, decimal}
-use Rattle.std.specs.List.{AllByRecursion as All}
+use Rattle.std.specs.List.{AllByRecursion}
 use Rattle.lattice.specs.declared.word.Word.{Word}
 use Rattle.line_format.specs.Lines.{space, line_feed, most_lines}
 
@@ -28,7 +28,7 @@ unended (w ∷ v ∷ ws) = written w ++ (line_feed ∷ unended (v ∷ ws))
 
 -- a text of the form, and the words that it writes
 pub record Writes (ws : List Word) (text : List ℕ) : Type 0 where
-  pub in_range : All InRange ws
+  pub in_range : AllByRecursion InRange ws
   pub few : length ws ≤ most_lines
   pub lines : (text ≡ ended ws) ⊎ (text ≡ unended ws)
 

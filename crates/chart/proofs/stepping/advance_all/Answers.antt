@@ -1,4 +1,4 @@
-use Rattle.std.proofs.Common.{◌<◌, ◌≤◌, arith}
+use Rattle.std.proofs.Common.{arith}
 use Rattle.chart.specs.Stepping.{wordless}
 use Rattle.chart.specs.View.{view}
 use Rattle.chart.proofs.Settling.{finished_most, goes_on, settles_from, settles_on, settles_at}

@@ -1,4 +1,4 @@
-use Rattle.std.proofs.Common.{sym, ◌∙◌, arith}
+use Rattle.std.proofs.Common.{◌∙◌, arith}
 use Rattle.chart_model.specs.Plain.{place_brings}
 use Rattle.chart.specs.View.{view}
 use Rattle.chart.proofs.Keeping.{view_within}

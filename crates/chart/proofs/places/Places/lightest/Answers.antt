@@ -11,7 +11,7 @@ pub loop-i-preserved-then-is_open : goal.loop-i-preserved-then-is_open
 loop-i-preserved-then-is_open g c =
     let lighter = (g.W.Weighing.weights c.args.weighing.now).lighter in
     let p = c.args.self.now in
-    c.lighter_of.ensures ∙ ap (λ (z : Standing). lighter_of lighter z c.loop-i.best) c.seen.ensures ∙ ap (lighter_standing lighter _) c.loop-i.invariant
+    c.lighter_of.ensures ∙ ap (λ (z : Standing). lighter_standing lighter z c.loop-i.best) c.seen.ensures ∙ ap (lighter_standing lighter _) c.loop-i.invariant
     ∙ meets lighter p.slots p.taken c.loop-i.i _ (omega arith) c.loop-i-test.true (omega arith) (sym c.is_open.ensures ∙ c.if-is_open.true)
 
 pub loop-i-preserved : goal.loop-i-preserved

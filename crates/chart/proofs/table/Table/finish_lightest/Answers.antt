@@ -15,14 +15,14 @@ finish-requires g c =
     let left = f.left in
     (omega arith, (t.room, omega arith))
 
-pub invariant-of-self : goal.invariant-of-self
-invariant-of-self g c =
+pub invariant_of-self : goal.invariant_of-self
+invariant_of-self g c =
     let t = c.args.self.now in
     let lighter = (g.W.Weighing.weights c.args.weighing.now).lighter in
     let f = found lighter (view t.places) (t.counted, t.orderly) _ (sym c.in-Some.ensures) in
     let (counted, ordered) = subst Kept (sym c.finish.ensures.view) f.kept in
     let room : c.finish.new.self.taken ≤ room = let h = t.room in let e = c.finish.ensures.taken in omega arith in
-    (room, (counted, (ordered, tt)))
+    record { room = room; counted = counted; orderly = ordered }
 
 pub returns : goal.returns
 returns g c =

@@ -1,4 +1,4 @@
-use Rattle.std.proofs.Common.{suc, ◌<◌, arith}
+use Rattle.std.proofs.Common.{suc, arith}
 use Rattle.chart.proofs.Keeping.{earlier_within}
 use Rattle.chart.proofs.Slots.{nth_taken}
 use Rattle.chart.proofs.table.Table.place.Goals as goal
