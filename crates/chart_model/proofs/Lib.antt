@@ -22,3 +22,4 @@ pub mod Numbering
 pub mod Grounding
 pub mod Readings
 pub mod Worked
+pub mod WorkedReadings

@@ -9,7 +9,7 @@ use Rattle.chart_model.specs.Worked.{cases, AllComeOut, two_boxes}
 
 pub all_come_out : AllComeOut cases
 unfolding steps
-all_come_out = (refl, (refl, (refl, (refl, (refl, (refl, (refl, (refl, (refl, (refl, (refl, (refl, (refl, (refl, (refl, (refl, (refl, (refl, (refl, (refl, (refl, (refl, (refl, (refl, (refl, (refl, (refl, tt)))))))))))))))))))))))))))
+all_come_out = (refl, (refl, (refl, (refl, (refl, (refl, (refl, (refl, (refl, (refl, (refl, (refl, (refl, (refl, (refl, (refl, (refl, (refl, (refl, (refl, (refl, tt)))))))))))))))))))))
 
 pub two_boxes_sound : Sound (two_boxes count_rules chance_weights)
 two_boxes_sound =

@@ -7,3 +7,4 @@ pub mod Stands
 pub mod Origins
 pub mod Reading
 pub mod Worked
+pub mod WorkedReadings

@@ -1,26 +1,21 @@
 -- Worked cases: small tasks, and what a chart with room for 1,024 edges answers to them. Assumes nothing.
-use Rattle.std.specs.Prelude.{◌≡◌, ℕ, List, [], ◌∷◌, length, Ok, Err, Result, refl}
+use Rattle.std.specs.Prelude.{◌≡◌, ℕ, ◌≤◌, List, [], ◌∷◌, length, Some, Ok, Err, Result, refl}
 use Rattle.std.proofs.Common.{lit≤}
 use Rattle.weighing.specs.Laws.{Weights}
 use Rattle.weighing.specs.Weighings.{sum_weights, worst_weights, chance_weights}
 use Rattle.grammar.specs.Rules.{Rule}
-use Rattle.grammar.specs.Count.{line, part, gap, one, two, box, opened, rewrites, count_rules}
+use Rattle.grammar.specs.Count.{line, part, num, gap, one, two, box, opened, rewrites, count_rules}
 use Rattle.grammar.specs.Surcharges.{surcharged}
 use Rattle.lattice.specs.declared.word.Word.{Word}
 use Rattle.lattice.specs.Heard.{largest_end}
 use Rattle.lattice.specs.Typed.{typed_words}
-use Rattle.chart_model.specs.Task.{Task}
+use Rattle.chart_model.specs.Task.{Task, Sound}
 use Rattle.chart_model.specs.Derivation.{Tree, word, rule, none, more, tree_weight}
-use Rattle.chart_model.specs.Plain.{step_answer, settled, working_answer, settled_answer}
+use Rattle.chart_model.specs.Plain.{Chart, step_answer, settled, working_answer, settled_answer}
 use Rattle.chart_model.specs.Stands.{after}
-use Rattle.chart_model.specs.Listing.{node, tree_nodes}
-use Rattle.chart_model.specs.Reading.{reading}
-use Rattle.chart_model.specs.declared.edge.Edge.TheVariants.{Passive}
 use Rattle.chart_model.specs.declared.origin.Origin.{Origin}
 use Rattle.chart_model.specs.declared.origin.Origin.TheVariants.{Word as FromWord, First}
 use Rattle.chart_model.specs.declared.place.Place.{Place}
-use Rattle.chart_model.specs.declared.node.Kind.TheVariants.{Word as Heard, Rule as ByRule}
-use Rattle.chart_model.specs.declared.node.Node.{Node}
 
 -- TASKS
 
@@ -81,8 +76,6 @@ pub data Case : Type 0 where
   steps_on : Task → ℕ → Result ℕ ℕ → Case
   -- where the weights of a settled chart come from, place by place
   comes_from : Task → List Origin → Case
-  -- the reading of a symbol over a stretch, by the origins of a settled chart
-  reads : Task → ℕ → ℕ → ℕ → List Node → Case
   -- what a derivation weighs
   weighs : {t : Task} {x i j : ℕ} → Tree t x i j → ℕ → Case
   -- what a weight is
@@ -100,7 +93,6 @@ ComesOut (settles t x i j answer) = settled_answer t (settled t places (after t 
 ComesOut (works t n x i j answer) = working_answer t (after t places n) x i j ≡ answer
 ComesOut (steps_on t n answer) = step_answer t places (after t places n) ≡ answer
 ComesOut (comes_from t list) = origins (settled t places (after t places 0)).places ≡ list
-ComesOut (reads t x i j nodes) = reading (settled t places (after t places 0)).places (Passive x i j) ≡ nodes
 ComesOut (weighs d weight) = tree_weight d ≡ weight
 ComesOut (amounts a b) = a ≡ b
 
@@ -112,10 +104,6 @@ abbrev pub cases : List Case
 cases =
     -- two boxes, open one: the lighter of two derivations
     settles (two_boxes count_rules sum_weights) line 0 4 (Ok 109)
-    ∷ reads (two_boxes count_rules sum_weights) line 0 4 (tree_nodes one_open)
-    ∷ reads (two_boxes count_rules sum_weights) line 0 4 (
-    node ByRule 1 0 4 ∷ node ByRule 0 0 2 ∷ node ByRule 2 0 2 ∷ node ByRule 7 0 1 ∷ node Heard 0 0 1 ∷ node Heard 1 1 2
-    ∷ node ByRule 9 2 2 ∷ node ByRule 3 2 4 ∷ node Heard 2 2 3 ∷ node ByRule 6 3 4 ∷ node Heard 3 3 4 ∷ [])
     ∷ weighs one_open 109
     ∷ weighs two_open 117
     -- by the worst mark alone
@@ -132,18 +120,14 @@ cases =
     -- round and round is never lighter: 5 comes by its second rule, from the word
     ∷ settles round 5 0 1 (Ok 12)
     ∷ comes_from round (FromWord 0 ∷ First 1 0 ∷ [])
-    ∷ reads round 5 0 1 (node ByRule 1 0 1 ∷ node Heard 0 0 1 ∷ [])
     -- the empty symbol, the rule with the first of the two, and then the symbol of both
     ∷ works two_empties 2 5 0 0 (Err 8)
     ∷ works two_empties 3 5 0 0 (Ok 5)
-    ∷ reads two_empties 5 0 0 (node ByRule 0 0 0 ∷ node ByRule 1 0 0 ∷ node ByRule 1 0 0 ∷ [])
     -- the lighter word counts, and among equals the first
     ∷ settles (echo 9 4) 9 0 1 (Ok 4)
     ∷ comes_from (echo 9 4) (FromWord 1 ∷ [])
-    ∷ reads (echo 9 4) 9 0 1 (node Heard 1 0 1 ∷ [])
     ∷ settles (echo 4 4) 9 0 1 (Ok 4)
     ∷ comes_from (echo 4 4) (FromWord 0 ∷ [])
-    ∷ reads (echo 4 4) 9 0 1 (node Heard 0 0 1 ∷ [])
     -- half a chance, half of a half, and next to none twice
     ∷ amounts (chance_weights.weigh 32768) 1073741824
     ∷ amounts (chance_weights.join 1073741824 1073741824) 536870912

@@ -7,6 +7,7 @@ ghost use Rattle.chart_model.specs.Stands.{Reached, LawOfTheLightest};
 ghost use Rattle.chart_model.specs.Origins.{Grounded};
 ghost use Rattle.chart_model.specs.Reading.{LawOfReadings};
 ghost use Rattle.chart_model.specs.Worked.{AllComeOut, cases, two_boxes};
+ghost use Rattle.chart_model.specs.WorkedReadings.{AllRead, reading_cases};
 ghost use Rattle.weighing.specs.Weighings.{chance_weights};
 ghost use Rattle.grammar.specs.Count.{count_rules};
 
@@ -40,6 +41,13 @@ pub fn readings_law() -> u8
 pub fn worked_cases() -> u8
     ensures come_out { AllComeOut cases }
     ensures lawful { Sound (two_boxes count_rules chance_weights) }
+{
+    0
+}
+
+// The worked cases are read as they should be.
+pub fn worked_readings() -> u8
+    ensures { AllRead reading_cases }
 {
     0
 }
