@@ -1,7 +1,7 @@
 #!/usr/bin/env python3
 """Runs the program on random texts, and compares what it prints with an independent model.
 
-Usage: tools/fuzz/fuzz.py [HOW MANY] [SEED]   (from the repository's root, after `rt check yuccaknit`)
+Usage: tools/fuzz/fuzz.py [HOW MANY] [SEED]   (from the repository's root, after `rt run` in crates/tell_weight)
 """
 import random
 import subprocess
@@ -10,7 +10,7 @@ from collections import Counter
 
 import model
 
-PROGRAM = "target/bin/yuccaknit"
+PROGRAM = "crates/tell_weight/out/tell_weight"
 SPOKEN = [model.ONE, model.TWO, model.THREE, model.BOX, model.OPEN, model.UM]
 
 
