@@ -3,7 +3,7 @@ use Rattle.std.specs.Prelude.{◌≡◌, ℕ, ◌^◌, ◌≤◌, min, Bool, tru
 use Rattle.std.proofs.Common.{sym, subst, arith, length-take}
 use Rattle.std.proofs.lemmas.List.{length-map}
 use Rattle.std.proofs.lemmas.Bool.{and_parts, and_from, leb-true, le-leb}
-use Rattle.records.specs.Lists.{every}
+use Rattle.std.specs.List.{list_all}
 use Rattle.records.proofs.Every.{every_map}
 use Rattle.grammar.specs.declared.rule.RuleRecord.{RuleRecord}
 use Rattle.grammar.specs.Rules.{Rule, most_rules, most_symbols, rule_within, Limits}
@@ -20,7 +20,7 @@ abbrev pub record_within : RuleRecord → Bool
 record_within r = nat_le r.length most_symbols && nat_lt r.mark (2 ^ 16)
 
 abbrev pub records_within : List RuleRecord → Bool
-records_within rs = every record_within rs
+records_within rs = list_all record_within rs
 
 rule_limits : (r : RuleRecord) → record_within r ≡ true → rule_within (rule_of r) ≡ true
 rule_limits r h =

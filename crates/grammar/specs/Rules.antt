@@ -2,7 +2,7 @@
 use Rattle.std.specs.Prelude.{◌≡◌, ℕ, ◌^◌, ◌≤◌, Bool, true, ◌&&◌, List, length, Some, None, Option, nat_le, nat_lt}
 use Rattle.std.specs.List.{slice_get}
 use Rattle.std.specs.Option.{option_map}
-use Rattle.records.specs.Lists.{every}
+use Rattle.std.specs.List.{list_all}
 
 -- the left symbol derives the right symbols, in order; the mark says how doubtful that is
 pub record Rule : Type 0 where
@@ -21,7 +21,7 @@ abbrev pub rule_within : Rule → Bool
 rule_within r = nat_le (length r.right) most_symbols && nat_lt r.mark (2 ^ 16)
 
 abbrev pub rules_within : List Rule → Bool
-rules_within rs = every rule_within rs
+rules_within rs = list_all rule_within rs
 
 -- rules that make a grammar
 pub record Limits (rules : List Rule) : Type 0 where

@@ -1,18 +1,13 @@
 // Rules that were checked: a grammar can be made of them without a refusal.
-ghost use Rattle.std.specs.Prelude.{◌≡◌, ◌≤◌, true, [], length as list_length, Ok, Err};
-ghost use Rattle.std.specs.Option.{option_map};
-ghost use Rattle.std.specs.Result.{result_err};
+ghost use Rattle.std.specs.Prelude.{◌≡◌, []};
 ghost use Rattle.grammar.specs.Rules.{most_rules};
-ghost use Rattle.grammar.specs.Records.{record_within, records_within};
-ghost use Rattle.grammar.specs.Faults.{rule_number, told};
-ghost use Rattle.grammar.specs.Checking.{rule_refusal, rules_refusal};
+ghost use Rattle.grammar.specs.Records.{record_within};
+ghost use Rattle.grammar.specs.Checking.{rule_refusal};
 
-use crate::fault::{GrammarFault, RuleFault};
+use crate::fault::RuleFault;
 use crate::rule::RuleRecord;
-use records::{Record, check_records};
-
-// No grammar has more rules than this.
-const MOST_RULES: usize = 96;
+use records::Record;
+use records::checked::Checked;
 
 // No rule has more right symbols than this.
 const MOST_SYMBOLS: u8 = 4;
@@ -20,7 +15,9 @@ const MOST_SYMBOLS: u8 = 4;
 impl Record for RuleRecord {
     type Fault = RuleFault;
 
-    ghost number = { rule_number };
+    ghost MOST = { most_rules };
+
+    const MOST: usize = 96;
 
     ghost refusal = { rule_refusal };
 
@@ -35,31 +32,11 @@ impl Record for RuleRecord {
 }
 
 // Rules that were checked.
-#[derive(Drop)]
-pub struct CheckedRules<'a> {
-    pub(crate) rules: &'a [RuleRecord],
-    ghost few: { list_length rules.now ≤ most_rules },
-    ghost within: { records_within rules.now ≡ true },
-}
+pub type CheckedRules<'a> = Checked<'a, RuleRecord>;
 
-impl<'a> CheckedRules<'a> {
-    // No rules yet.
-    pub fn none() -> Self
-        ensures { result.rules.now ≡ [] }
-    {
-        CheckedRules { rules: &[] }
-    }
-
-    // Takes a list of rules, or refuses it and keeps the rules that it has.
-    pub fn check(&mut self, rules: &'a [RuleRecord]) -> Result<(), GrammarFault>
-        ensures refused { option_map told (result_err result) ≡ rules_refusal rules.now }
-        ensures rules { self.new.rules.now ≡ elim result [ Ok _ ↦ rules.now | Err _ ↦ self.old.rules.now ] }
-    {
-        if rules.len() > MOST_RULES {
-            return Err(GrammarFault::TooManyRules);
-        }
-        check_records(rules)?;
-        self.rules = rules;
-        Ok(())
-    }
+// No rules yet. It stands here and not once for all records, since a body for all of them could not name a wrong list.
+pub fn no_rules<'a>() -> CheckedRules<'a>
+    ensures { result.records.now ≡ [] }
+{
+    Checked { records: &[] }
 }

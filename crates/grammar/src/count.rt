@@ -4,9 +4,9 @@ ghost use Rattle.grammar.specs.Count.{count_rules, count_limits};
 ghost use Rattle.grammar.specs.Records.{rules_of};
 
 use crate::Grammar;
-use crate::checked::CheckedRules;
 use crate::list::RuleList;
 use crate::rule::RuleRecord;
+use records::checked::Checked;
 
 // A whole line, a part of it, a number, and what may stand between two parts.
 pub const LINE: u8 = 1;
@@ -101,14 +101,14 @@ const RULES: [RuleRecord; 11] = [
 
 // The rules as a list.
 fn table() -> RuleList<'static>
-    ensures { rules_of result.checked.rules.now ≡ count_rules }
+    ensures { rules_of result.checked.records.now ≡ count_rules }
 {
     RuleList {
-        checked: CheckedRules { rules: &RULES },
+        checked: Checked { records: &RULES },
     }
 }
 
-#[derive(Clone, Copy)]
+#[derive(Clone, Copy, PartialEq, Eq, Debug, Default)]
 pub struct CountGrammar;
 
 impl Grammar for CountGrammar {

@@ -18,27 +18,27 @@ pub struct RuleList<'a> {
 impl<'a> RuleList<'a> {
     // The grammar of checked rules. Nothing is refused.
     pub fn new(checked: CheckedRules<'a>) -> Self
-        ensures { result.checked.rules.now ≡ checked.entry.rules.now }
+        ensures { result.checked.records.now ≡ checked.entry.records.now }
     {
         RuleList { checked }
     }
 
     // The record of a rule.
     fn record(&self, rule: usize) -> Option<RuleRecord>
-        ensures meaning { option_map rule_of result ≡ slice_get (rules_of self.now.checked.rules.now) rule }
+        ensures meaning { option_map rule_of result ≡ slice_get (rules_of self.now.checked.records.now) rule }
         ensures within { IfSome result (λ x. x.length ≤ most_symbols) }
     {
-        self.checked.rules.get(rule).copied()
+        self.checked.records.get(rule).copied()
     }
 }
 
 impl<'a> Grammar for RuleList<'a> {
-    ghost rules = { λ s. rules_of s.checked.rules.now };
+    ghost rules = { λ s. rules_of s.checked.records.now };
 
-    ghost limits = { λ s. records_limits s.checked.rules.now s.checked.few s.checked.within };
+    ghost limits = { λ s. records_limits s.checked.records.now s.checked.few s.checked.within };
 
     fn len(&self) -> usize {
-        self.checked.rules.len()
+        self.checked.records.len()
     }
 
     fn left(&self, rule: usize) -> Option<u8> {
@@ -50,14 +50,15 @@ impl<'a> Grammar for RuleList<'a> {
     }
 
     fn length(&self, rule: usize) -> Option<usize> {
-        Some(self.record(rule)?.length as usize)
+        Some(usize::from(self.record(rule)?.length))
     }
 
     fn right(&self, rule: usize, at: usize) -> Option<u8> {
         let record = self.record(rule)?;
-        if at >= record.length as usize {
-            return None;
-        }
-        Some(record.symbols[at])
+        record
+            .symbols
+            .get(..usize::from(record.length))?
+            .get(at)
+            .copied()
     }
 }

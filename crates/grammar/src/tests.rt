@@ -1,11 +1,12 @@
 // Rules at their limits, and piles of surcharges.
 use super::*;
-use crate::checked::CheckedRules;
+use crate::checked::{CheckedRules, no_rules};
 use crate::count::*;
 use crate::fault::*;
 use crate::list::RuleList;
 use crate::rule::RuleRecord;
 use crate::surcharge::Surcharge;
+use records::numbered::Numbered;
 use std::test::Fail;
 
 fn rule(length: u8) -> RuleRecord {
@@ -20,8 +21,8 @@ fn rule(length: u8) -> RuleRecord {
 #[test]
 fn most_rules(rt: HostRuntime) {
     let rules = [rule(4); 97];
-    let mut checked = CheckedRules::none();
-    assert_eq!(rt; checked.check(&rules), Err(GrammarFault::TooManyRules));
+    let mut checked = no_rules();
+    assert_eq!(rt; checked.check(&rules), Err(GrammarFault::TooMany));
     assert_eq!(rt; checked.check(&rules[0..96]), Ok(()));
     assert_eq!(rt; RuleList::new(checked).len(), 96);
 }
@@ -29,11 +30,11 @@ fn most_rules(rt: HostRuntime) {
 #[test]
 fn longest_rule(rt: HostRuntime) {
     let rules = [rule(4), rule(0), rule(5), rule(6)];
-    let fault = GrammarFault::Rule {
+    let fault = GrammarFault::At {
         at: 2,
         fault: RuleFault::TooLong,
     };
-    let mut checked = CheckedRules::none();
+    let mut checked = no_rules();
     assert_eq!(rt; checked.check(&rules), Err(fault));
     assert_eq!(rt; fault.number(), 5);
     assert_eq!(rt;
@@ -46,9 +47,7 @@ fn longest_rule(rt: HostRuntime) {
 #[test]
 fn past_the_end(rt: HostRuntime) -> Result<(), Fail> {
     let rules = [rule(3)];
-    let mut checked = CheckedRules::none();
-    checked.check(&rules)?;
-    let list = RuleList::new(checked);
+    let list = RuleList::new(CheckedRules::new(&rules)?);
     assert_eq!(rt; list.right(0, 2), Some(3));
     assert_eq!(rt;
         list.right(0, 3),

@@ -2,7 +2,7 @@
 use Rattle.std.specs.Prelude.{◌≡◌, ℕ, ◌^◌, ◌<◌, ◌≤◌, Bool, true, ◌&&◌, List, length, nat_le, nat_lt}
 use Rattle.std.proofs.Common.{arith}
 use Rattle.std.proofs.lemmas.Bool.{and_parts, leb-true, ltb-true}
-use Rattle.records.specs.Lists.{every}
+use Rattle.std.specs.List.{list_all}
 use Rattle.lattice.specs.declared.word.Word.{Word}
 
 -- nodes are numbered from 0 to this one at most
@@ -40,7 +40,7 @@ word_limits last w h =
     }
 
 abbrev pub words_within : ℕ → List Word → Bool
-words_within last ws = every (word_within last) ws
+words_within last ws = list_all (word_within last) ws
 
 -- a last node and words that make a lattice
 pub record Limits (last : ℕ) (words : List Word) : Type 0 where

@@ -1,17 +1,12 @@
 // Words that were checked: a lattice can be made of them without a refusal.
-ghost use Rattle.std.specs.Prelude.{◌≡◌, ◌≤◌, true, [], length, Ok, Err};
-ghost use Rattle.std.specs.Option.{option_map};
-ghost use Rattle.std.specs.Result.{result_err};
-ghost use Rattle.lattice.specs.Words.{greatest_node, most_words, word_within, words_within};
-ghost use Rattle.lattice.specs.Faults.{word_number, told};
-ghost use Rattle.lattice.specs.Checking.{word_refusal, words_refusal};
+ghost use Rattle.std.specs.Prelude.{◌≡◌, []};
+ghost use Rattle.lattice.specs.Words.{greatest_node, most_words, word_within};
+ghost use Rattle.lattice.specs.Checking.{word_refusal};
 
-use crate::fault::{LatticeFault, WordFault};
+use crate::fault::WordFault;
 use crate::word::Word;
-use records::{Record, check_records};
-
-// No lattice has more words than this.
-const MOST_WORDS: usize = 128;
+use records::Record;
+use records::checked::Checked;
 
 // No lattice has a node past this one.
 pub(crate) const GREATEST_NODE: u8 = 31;
@@ -19,7 +14,9 @@ pub(crate) const GREATEST_NODE: u8 = 31;
 impl Record for Word {
     type Fault = WordFault;
 
-    ghost number = { word_number };
+    ghost MOST = { most_words };
+
+    const MOST: usize = 128;
 
     ghost refusal = { word_refusal };
 
@@ -37,31 +34,11 @@ impl Record for Word {
 }
 
 // Words that were checked.
-#[derive(Drop)]
-pub struct CheckedWords<'a> {
-    pub(crate) words: &'a [Word],
-    ghost few: { length words.now ≤ most_words },
-    ghost within: { words_within greatest_node words.now ≡ true },
-}
+pub type CheckedWords<'a> = Checked<'a, Word>;
 
-impl<'a> CheckedWords<'a> {
-    // No words yet.
-    pub fn none() -> Self
-        ensures { result.words.now ≡ [] }
-    {
-        CheckedWords { words: &[] }
-    }
-
-    // Takes a list of words, or refuses it and keeps the words that it has.
-    pub fn check(&mut self, words: &'a [Word]) -> Result<(), LatticeFault>
-        ensures refused { option_map told (result_err result) ≡ words_refusal words.now }
-        ensures words { self.new.words.now ≡ elim result [ Ok _ ↦ words.now | Err _ ↦ self.old.words.now ] }
-    {
-        if words.len() > MOST_WORDS {
-            return Err(LatticeFault::TooManyWords);
-        }
-        check_records(words)?;
-        self.words = words;
-        Ok(())
-    }
+// No words yet. It stands here and not once for all records, since a body for all of them could not name a wrong list.
+pub fn no_words<'a>() -> CheckedWords<'a>
+    ensures { result.records.now ≡ [] }
+{
+    Checked { records: &[] }
 }

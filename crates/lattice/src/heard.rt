@@ -11,15 +11,15 @@ use crate::word::Word;
 pub struct HeardLattice<'a> {
     checked: CheckedWords<'a>,
     last: u8,
-    ghost largest: { last ≡ largest_end checked.words.now },
+    ghost largest: { last ≡ largest_end checked.records.now },
 }
 
 impl<'a> HeardLattice<'a> {
     // The lattice of checked words. Nothing is refused.
     pub fn new(checked: CheckedWords<'a>) -> Self
-        ensures { result.checked.words.now ≡ checked.entry.words.now }
+        ensures { result.checked.records.now ≡ checked.entry.records.now }
     {
-        let last = largest_end(checked.words);
+        let last = largest_end(checked.records);
         HeardLattice { checked, last }
     }
 }
@@ -28,29 +28,25 @@ impl<'a> HeardLattice<'a> {
 fn largest_end(words: &[Word]) -> u8
     ensures { result ≡ largest_end words.now }
 {
-    let mut largest: u8 = 0;
-    for word in words {
-        largest = largest.max(word.to);
-    }
-    largest
+    words.iter().fold(0, |largest, word| largest.max(word.to))
 }
 
 impl<'a> Lattice for HeardLattice<'a> {
-    ghost last = { λ s. largest_end s.checked.words.now };
+    ghost last = { λ s. largest_end s.checked.records.now };
 
-    ghost words = { λ s. s.checked.words.now };
+    ghost words = { λ s. s.checked.records.now };
 
-    ghost limits = { λ s. heard_limits s.checked.words.now s.checked.few s.checked.within };
+    ghost limits = { λ s. heard_limits s.checked.records.now s.checked.few s.checked.within };
 
     fn last_node(&self) -> u8 {
         self.last
     }
 
     fn len(&self) -> usize {
-        self.checked.words.len()
+        self.checked.records.len()
     }
 
     fn word(&self, n: usize) -> Option<Word> {
-        self.checked.words.get(n).copied()
+        self.checked.records.get(n).copied()
     }
 }

@@ -1,10 +1,11 @@
 // Words and typed lines at their limits.
 use super::*;
-use crate::checked::CheckedWords;
+use crate::checked::{CheckedWords, no_words};
 use crate::fault::*;
 use crate::heard::HeardLattice;
 use crate::typed::TypedLine;
 use records::Record;
+use records::numbered::Numbered;
 use std::test::Fail;
 
 fn word(from: u8, to: u8) -> Word {
@@ -26,8 +27,8 @@ fn two_ends(rt: HostRuntime) {
 #[test]
 fn first_fault(rt: HostRuntime) {
     let words = [word(0, 3), word(5, 32), word(2, 1)];
-    let mut checked = CheckedWords::none();
-    let fault = LatticeFault::Word {
+    let mut checked = no_words();
+    let fault = LatticeFault::At {
         at: 1,
         fault: WordFault::EndsTooLate,
     };
@@ -43,8 +44,8 @@ fn first_fault(rt: HostRuntime) {
 #[test]
 fn most_words(rt: HostRuntime) {
     let words = [word(0, 1); 129];
-    let mut checked = CheckedWords::none();
-    assert_eq!(rt; checked.check(&words), Err(LatticeFault::TooManyWords));
+    let mut checked = no_words();
+    assert_eq!(rt; checked.check(&words), Err(LatticeFault::TooMany));
     assert_eq!(rt; checked.check(&words[0..128]), Ok(()));
     assert_eq!(rt; HeardLattice::new(checked).len(), 128);
 }
@@ -52,9 +53,7 @@ fn most_words(rt: HostRuntime) {
 #[test]
 fn heard_words(rt: HostRuntime) -> Result<(), Fail> {
     let words = [word(0, 3), word(1, 9), word(2, 4)];
-    let mut checked = CheckedWords::none();
-    checked.check(&words)?;
-    let lattice = HeardLattice::new(checked);
+    let lattice = HeardLattice::new(CheckedWords::new(&words)?);
     assert_eq!(rt; lattice.last_node(), 9);
     assert_eq!(rt; lattice.word(2), Some(word(2, 4)));
     assert_eq!(rt; lattice.word(3), None);

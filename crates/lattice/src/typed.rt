@@ -1,5 +1,5 @@
 // A lattice over a caller's bytes, one word to a byte.
-ghost use Rattle.std.specs.Prelude.{◌≡◌, ◌≤◌, [], length, Ok, Err};
+ghost use Rattle.std.specs.Prelude.{◌≡◌, ◌≤◌, [], length, Ok, Err, IfOk};
 ghost use Rattle.std.specs.Option.{option_map};
 ghost use Rattle.std.specs.Result.{result_err};
 ghost use Rattle.lattice.specs.Words.{greatest_node};
@@ -12,6 +12,7 @@ use crate::checked::GREATEST_NODE;
 use crate::fault::TypedFault;
 use crate::word::Word;
 
+// No list of checked records: a byte keeps to nothing by itself, so the form of `Checked` would say more than is so.
 // Byte n is a word from node n to the next, without doubt; the last node is the length.
 #[derive(Drop)]
 pub struct TypedLine<'a> {
@@ -27,15 +28,23 @@ impl<'a> TypedLine<'a> {
         TypedLine { bytes: &[] }
     }
 
+    // A line of bytes.
+    pub fn new(bytes: &'a [u8]) -> Result<Self, TypedFault>
+        ensures refused { option_map typed_number (result_err result) ≡ typed_refusal bytes.now }
+        ensures bytes { IfOk result (λ line. line.bytes.now ≡ bytes.now) }
+    {
+        if bytes.len() > usize::from(GREATEST_NODE) {
+            return Err(TypedFault::TooLong);
+        }
+        Ok(TypedLine { bytes })
+    }
+
     // Takes a line, or refuses it and keeps the one that it has.
     pub fn set(&mut self, bytes: &'a [u8]) -> Result<(), TypedFault>
         ensures refused { option_map typed_number (result_err result) ≡ typed_refusal bytes.now }
         ensures bytes { self.new.bytes.now ≡ elim result [ Ok _ ↦ bytes.now | Err _ ↦ self.old.bytes.now ] }
     {
-        if bytes.len() > GREATEST_NODE as usize {
-            return Err(TypedFault::TooLong);
-        }
-        self.bytes = bytes;
+        *self = TypedLine::new(bytes)?;
         Ok(())
     }
 }
@@ -56,14 +65,12 @@ impl<'a> Lattice for TypedLine<'a> {
     }
 
     fn word(&self, n: usize) -> Option<Word> {
-        if n >= self.bytes.len() {
-            return None;
-        }
+        let symbol = *self.bytes.get(n)?;
         let from = n as u8;
         Some(Word {
             from,
             to: from + 1,
-            symbol: self.bytes[n],
+            symbol,
             mark: 0,
         })
     }

@@ -1,10 +1,6 @@
--- Lists of records: that every record passes, and the first that is refused. Assumes nothing.
-use Rattle.std.specs.Prelude.{ℕ, suc, Bool, true, false, ◌&&◌, List, [], ◌∷◌, length, Some, None, Option, nat_le}
+-- The refusal of a list of records: of its first record that is refused. Assumes nothing.
+use Rattle.std.specs.Prelude.{ℕ, suc, true, false, List, [], ◌∷◌, length, Some, None, Option, nat_le}
 use Rattle.std.specs.Option.{option_map, option_or}
-
-abbrev pub every : {X : Type 0} → (X → Bool) → List X → Bool
-every passes [] = true
-every passes (x ∷ xs) = passes x && every passes xs
 
 -- the refusal of record number n: its number, and that of the record
 abbrev pub refusal_at : {X : Type 0} → (X → Option ℕ) → ℕ → X → Option (ℕ × Option ℕ)

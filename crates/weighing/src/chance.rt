@@ -9,7 +9,7 @@ use crate::Weighing;
 const CERTAIN: u64 = 2_147_483_648;
 
 // A chance in 2,147,483,648th parts of certainty.
-#[derive(Clone, Copy)]
+#[derive(Clone, Copy, PartialEq, Eq, Debug, Default)]
 pub struct Chance;
 
 impl Weighing for Chance {
@@ -20,7 +20,7 @@ impl Weighing for Chance {
     fn weigh(&self, mark: u16) -> u64
         ensures { result ≡ (65536 - mark) * 32768 }
     {
-        (65_536 - mark as u64) * 32_768
+        (65_536 - u64::from(mark)) * 32_768
     }
 
     fn join(&self, a: u64, b: u64) -> u64

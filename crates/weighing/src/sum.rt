@@ -5,7 +5,7 @@ ghost use Rattle.std.proofs.Common.{rules};
 
 use crate::Weighing;
 
-#[derive(Clone, Copy)]
+#[derive(Clone, Copy, PartialEq, Eq, Debug, Default)]
 pub struct Sum;
 
 impl Weighing for Sum {
@@ -16,7 +16,7 @@ impl Weighing for Sum {
     fn weigh(&self, mark: u16) -> u64
         ensures { result ≡ mark }
     {
-        mark as u64
+        u64::from(mark)
     }
 
     fn join(&self, a: u64, b: u64) -> u64

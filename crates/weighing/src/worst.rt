@@ -5,9 +5,10 @@ ghost use Rattle.std.proofs.Common.{rules};
 
 use crate::Weighing;
 
-#[derive(Clone, Copy)]
+#[derive(Clone, Copy, PartialEq, Eq, Debug, Default)]
 pub struct Worst;
 
+// Its marks and its order are those of `Sum`. Each weighing states its own equations, so that none passes for another.
 impl Weighing for Worst {
     ghost weights = { λ _. worst_weights };
 
@@ -16,7 +17,7 @@ impl Weighing for Worst {
     fn weigh(&self, mark: u16) -> u64
         ensures { result ≡ mark }
     {
-        mark as u64
+        u64::from(mark)
     }
 
     fn join(&self, a: u64, b: u64) -> u64

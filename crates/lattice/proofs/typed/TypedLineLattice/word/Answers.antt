@@ -1,9 +1,10 @@
-use Rattle.std.proofs.Common.{sym, zero-add, add-one}
-use Rattle.lattice.proofs.TypedWords.{typed_at, typed_past}
+use Rattle.std.proofs.Common.{rules}
+use Rattle.std.proofs.lemmas.Option.{slice_get-get_or, slice_get_past}
+use Rattle.lattice.proofs.TypedWords.{typed_at}
 use Rattle.lattice.proofs.typed.TypedLineLattice.word.Goals as goal
 
-pub returns-then-n-self : goal.returns-then-n-self
-returns-then-n-self c = sym (typed_past 0 c.args.n c.args.self.now.bytes.now c.if-n-self.true)
+pub returns-in_err-symbol : goal.returns-in_err-symbol
+returns-in_err-symbol c = rw typed_at (search (rules, slice_get_past))
 
 pub returns : goal.returns
-returns c = rw (typed_at 0 c.args.n c.args.self.now.bytes.now c.if-n-self.false, zero-add, add-one)
+returns c = rw typed_at (search (rules, slice_get-get_or))

@@ -1,6 +1,0 @@
-// What is wrong with a record of a list, and where it stands.
-#[derive(Clone, Copy, PartialEq, Eq, Debug)]
-pub struct Placed<F> {
-    pub at: usize,
-    pub fault: F,
-}
