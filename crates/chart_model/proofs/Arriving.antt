@@ -91,7 +91,7 @@ module _ (capacity : ℕ) (lighter : ℕ → ℕ → Bool) where
       go (inr b) = inr (b.0, inr b.1, b.2)
 
   pub arrive_all_finished : (as' : List Arrival) (c : Chart) (p : Place) → In p (arrive_all capacity lighter c as').places →
-      is_open p.state ≡ false → In p c.places
+      is_open p.finished ≡ false → In p c.places
   arrive_all_finished as' c p i shut = go (arrive_all_from as' c p i)
     where
       go : In p c.places ⊎ ((a : Arrival) × In a as' × Brought a p) → In p c.places
@@ -119,6 +119,10 @@ module _ (capacity : ℕ) (lighter : ℕ → ℕ → Bool) where
   placed_fits c a (inl held) h = subst (λ m. m ≤ capacity) (sym (placed_held lighter a c.places held)) h
   placed_fits c a (inr below) h =
       let one_more : length (placed lighter a c.places) ≤ suc (length c.places) = placed_length lighter a c.places in omega arith
+
+  pub arrive_within : (c : Chart) (a : Arrival) → length c.places ≤ capacity → length (arrive capacity lighter c a).places ≤ capacity
+  arrive_within c a h =
+      arrive_cases c a (λ d. length d.places ≤ capacity) (λ _. h) (λ _ room. placed_fits c a room h) (λ _ _ _. h)
 
   pub arrive_all_fits : (as' : List Arrival) (c : Chart) → Fits capacity c → Fits capacity (arrive_all capacity lighter c as')
   arrive_all_fits as' =
@@ -177,6 +181,6 @@ module _ (capacity : ℕ) (ws : Weights) (law : Lawful ws) where
       coded_still p (inl j) = coded p j
       coded_still p (inr brought) = subst Code (sym brought.2) (codes b (inl refl))
 
-      beyond_still : (p : Place) → is_open p.state ≡ false → In p c.places ⊎ Brought b p → AtMost ws p.weight a.weight
+      beyond_still : (p : Place) → is_open p.finished ≡ false → In p c.places ⊎ Brought b p → AtMost ws p.weight a.weight
       beyond_still p shut (inl j) = beyond p j shut
       beyond_still p shut (inr brought) = absurd (true≢false (sym brought.0 ∙ shut))

@@ -1,15 +1,10 @@
 -- The order of weights: `AtMost ws a b` says that a and b are codes and that a is not heavier than b. Assumes nothing.
-use Rattle.std.proofs.Common.{◌≡◌, ℕ, Bool, true, false, ◌⊎◌, sym, refl, ◌∙◌, subst, inl, inr}
+use Rattle.std.proofs.Common.{◌≡◌, ℕ, true, false, ◌⊎◌, sym, ◌∙◌, subst, inl, inr}
 use Rattle.weighing.specs.Laws.{Weights, Lawful, Code}
-use Rattle.std.proofs.lemmas.Bool.{true≢false, cases_eq}
+use Rattle.std.proofs.lemmas.Bool.{true≢false, cases_eq, false_from_ne_true}
 
 abbrev pub AtMost : Weights → ℕ → ℕ → Type 0
 AtMost ws a b = Code a × Code b × (ws.lighter b a ≡ false)
-
--- a test that cannot pass fails
-pub fails : (b : Bool) → (b ≡ true → ⊥) → b ≡ false
-fails true no_pass = absurd (no_pass refl)
-fails false no_pass = refl
 
 module _ (ws : Weights) (law : Lawful ws) where
   pub at_most_refl : (a : ℕ) → Code a → AtMost ws a a
@@ -18,10 +13,10 @@ module _ (ws : Weights) (law : Lawful ws) where
   -- what is lighter is not heavier
   pub at_most_lighter : (a b : ℕ) → Code a → Code b → ws.lighter a b ≡ true → AtMost ws a b
   at_most_lighter a b ca cb lt =
-      (ca, cb, fails (ws.lighter b a) (λ back. true≢false (sym (law.transitive a b a ca cb ca lt back) ∙ law.irreflexive a ca)))
+      (ca, cb, false_from_ne_true (ws.lighter b a) (λ back. true≢false (sym (law.transitive a b a ca cb ca lt back) ∙ law.irreflexive a ca)))
 
   pub at_most_trans : (a b c : ℕ) → AtMost ws a b → AtMost ws b c → AtMost ws a c
-  at_most_trans a b c p q = (p.0, q.1, fails (ws.lighter c a) (λ lt. go lt (cases_eq b c)))
+  at_most_trans a b c p q = (p.0, q.1, false_from_ne_true (ws.lighter c a) (λ lt. go lt (cases_eq b c)))
     where
       met : ws.lighter c a ≡ true → (ws.lighter b c ≡ true) ⊎ (ws.lighter c b ≡ true) → ⊥
       met lt (inl bc) = true≢false (sym (law.transitive b c a p.1 q.1 p.0 bc lt) ∙ p.2)

@@ -18,35 +18,35 @@ in_holds e (q ∷ ps) p (inr i) same = or_right (same_edge q.edge e) (holds e ps
 
 -- the answer comes from a finished place of the edge
 abbrev Found : Edge → List Place → ℕ → Type 0
-Found e ps w = (p : Place) × In p ps × (p.edge ≡ e) × (is_open p.state ≡ false) × (p.weight ≡ w)
+Found e ps w = (p : Place) × In p ps × (p.edge ≡ e) × (is_open p.finished ≡ false) × (p.weight ≡ w)
 
 pub carried_from : (e : Edge) (ps : List Place) (w : ℕ) → carried e ps ≡ Some w → Found e ps w
 carried_from e [] w h = absurd (none_some h)
 carried_from e (q ∷ ps) w h = go (same_edge q.edge e) refl (carried_from e ps w) h
   where
-    here : same_edge q.edge e ≡ true → (b : Bool) → is_open q.state ≡ b →
+    here : same_edge q.edge e ≡ true → (b : Bool) → is_open q.finished ≡ b →
         elim b as (λ _. Option ℕ) [ true ↦ None | false ↦ Some q.weight ] ≡ Some w → Found e (q ∷ ps) w
     here same true s h' = absurd (none_some h')
     here same false s h' = (q, inl refl, same_edge_true q.edge e same, s, some_same h')
 
     go : (b : Bool) → same_edge q.edge e ≡ b → (carried e ps ≡ Some w → Found e ps w) →
-        elim b as (λ _. Option ℕ) [ true ↦ elim (is_open q.state) [ true ↦ None | false ↦ Some q.weight ] | false ↦ carried e ps ] ≡ Some w →
+        elim b as (λ _. Option ℕ) [ true ↦ elim (is_open q.finished) [ true ↦ None | false ↦ Some q.weight ] | false ↦ carried e ps ] ≡ Some w →
         Found e (q ∷ ps) w
-    go true same later h' = here same (is_open q.state) refl h'
+    go true same later h' = here same (is_open q.finished) refl h'
     go false other later h' = let (p, i, edge, shut, weight) = later h' in (p, inr i, edge, shut, weight)
 
 -- where no edge has two places, a finished place answers for its edge
-pub carried_of : (e : Edge) (ps : List Place) → apart ps → (p : Place) → In p ps → p.edge ≡ e → is_open p.state ≡ false → carried e ps ≡ Some p.weight
+pub carried_of : (e : Edge) (ps : List Place) → apart ps → (p : Place) → In p ps → p.edge ≡ e → is_open p.finished ≡ false → carried e ps ≡ Some p.weight
 carried_of e [] distinct p i same shut = absurd i
 carried_of e (q ∷ ps) distinct p (inl h) same shut =
     let found : same_edge q.edge e ≡ true = same_edge_from q.edge e (ap (λ (r : Place). r.edge) h ∙ same) in
-    ap (λ b. elim b as (λ _. Option ℕ) [ true ↦ elim (is_open q.state) [ true ↦ None | false ↦ Some q.weight ] | false ↦ carried e ps ]) found
-    ∙ ap (λ b. elim b as (λ _. Option ℕ) [ true ↦ None | false ↦ Some q.weight ]) (ap (λ (r : Place). is_open r.state) h ∙ shut)
+    ap (λ b. elim b as (λ _. Option ℕ) [ true ↦ elim (is_open q.finished) [ true ↦ None | false ↦ Some q.weight ] | false ↦ carried e ps ]) found
+    ∙ ap (λ b. elim b as (λ _. Option ℕ) [ true ↦ None | false ↦ Some q.weight ]) (ap (λ (r : Place). is_open r.finished) h ∙ shut)
     ∙ ap (λ (r : Place). Some r.weight) h
 carried_of e (q ∷ ps) distinct p (inr i) same shut = go (same_edge q.edge e) refl (carried_of e ps distinct.1 p i same shut)
   where
     go : (b : Bool) → same_edge q.edge e ≡ b → carried e ps ≡ Some p.weight →
-        elim b as (λ _. Option ℕ) [ true ↦ elim (is_open q.state) [ true ↦ None | false ↦ Some q.weight ] | false ↦ carried e ps ] ≡ Some p.weight
+        elim b as (λ _. Option ℕ) [ true ↦ elim (is_open q.finished) [ true ↦ None | false ↦ Some q.weight ] | false ↦ carried e ps ] ≡ Some p.weight
     go true h later = absurd (true≢false (sym (in_holds q.edge ps p i (same ∙ sym (same_edge_true q.edge e h))) ∙ distinct.0))
     go false h later = later
 
@@ -57,14 +57,14 @@ pub record StandsAt (m : ℕ) (e : Edge) (ps : List Place) (w : ℕ) : Type 0 wh
   pub there : slice_get ps number ≡ Some place
   pub first : place_from m e ps ≡ Some (m + number)
   pub edge : place.edge ≡ e
-  pub shut : is_open place.state ≡ false
+  pub shut : is_open place.finished ≡ false
   pub weight : place.weight ≡ w
 
 pub carried_stands : (m : ℕ) (e : Edge) (ps : List Place) (w : ℕ) → carried e ps ≡ Some w → StandsAt m e ps w
 carried_stands m e [] w h = absurd (none_some h)
 carried_stands m e (q ∷ ps) w h = go (same_edge q.edge e) refl (carried_stands (suc m) e ps w) h
   where
-    here : same_edge q.edge e ≡ true → (b : Bool) → is_open q.state ≡ b →
+    here : same_edge q.edge e ≡ true → (b : Bool) → is_open q.finished ≡ b →
         elim b as (λ _. Option ℕ) [ true ↦ None | false ↦ Some q.weight ] ≡ Some w → StandsAt m e (q ∷ ps) w
     here same true s h' = absurd (none_some h')
     here same false s h' =
@@ -93,7 +93,7 @@ carried_stands m e (q ∷ ps) w h = go (same_edge q.edge e) refl (carried_stands
         }
 
     go : (b : Bool) → same_edge q.edge e ≡ b → (carried e ps ≡ Some w → StandsAt (suc m) e ps w) →
-        elim b as (λ _. Option ℕ) [ true ↦ elim (is_open q.state) [ true ↦ None | false ↦ Some q.weight ] | false ↦ carried e ps ] ≡ Some w →
+        elim b as (λ _. Option ℕ) [ true ↦ elim (is_open q.finished) [ true ↦ None | false ↦ Some q.weight ] | false ↦ carried e ps ] ≡ Some w →
         StandsAt m e (q ∷ ps) w
-    go true same after h' = here same (is_open q.state) refl h'
+    go true same after h' = here same (is_open q.finished) refl h'
     go false other after h' = later other (after h')

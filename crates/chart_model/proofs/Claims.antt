@@ -11,8 +11,9 @@ use Rattle.chart_model.specs.declared.edge.Edge.{Edge}
 use Rattle.chart_model.specs.declared.edge.Edge.TheVariants.{Passive, Active}
 use Rattle.chart_model.specs.declared.place.Place.{Place}
 use Rattle.std.proofs.lemmas.Bool.{cases_Bool}
+use Rattle.std.proofs.lemmas.List.{take_all}
 use Rattle.chart_model.proofs.AtMost.{AtMost, at_most_refl, at_most_trans, at_most_left, at_most_right, at_most_join}
-use Rattle.chart_model.proofs.Members.{In, nth_below, take_whole}
+use Rattle.chart_model.proofs.Members.{In, nth_below}
 use Rattle.chart_model.proofs.Derivations.{rule_code, tree_code, row_end}
 use Rattle.chart_model.proofs.Conclusions.{reached_active, reached_passive}
 use Rattle.chart_model.proofs.Placing.{Beyond}
@@ -23,12 +24,12 @@ use Rattle.chart_model.proofs.Invariant.{Inv}
 
 -- the edge is finished, and no heavier
 abbrev pub Done : Task → Chart → Edge → ℕ → Type 0
-Done t c e v = (p : Place) × In p c.places × (p.edge ≡ e) × (is_open p.state ≡ false) × AtMost t.weights p.weight v
+Done t c e v = (p : Place) × In p c.places × (p.edge ≡ e) × (is_open p.finished ≡ false) × AtMost t.weights p.weight v
 
 -- some open edge is no heavier, or the chart is full and no finished edge is
 abbrev pub Late : Task → Chart → ℕ → Type 0
 Late t c v =
-    ((q : Place) × In q c.places × (is_open q.state ≡ true) × AtMost t.weights q.weight v)
+    ((q : Place) × In q c.places × (is_open q.finished ≡ true) × AtMost t.weights q.weight v)
     ⊎ ((c.full ≡ true) × Beyond t.weights c.places v)
 
 abbrev pub Claim : Task → Chart → Edge → ℕ → Type 0
@@ -75,9 +76,9 @@ module _ (t : Task) (s : Sound t) (c : Chart) (inv : Inv t c) where
   claim_up e v w le (inr f) = inr (late_up v w le f)
 
   answered_claim : (e : Edge) (v : ℕ) → Answered t.weights c e v → Claim t c e v
-  answered_claim e v (inl f) = go (cases_Bool (is_open f.0.state))
+  answered_claim e v (inl f) = go (cases_Bool (is_open f.0.finished))
     where
-      go : (is_open f.0.state ≡ true) ⊎ (is_open f.0.state ≡ false) → Claim t c e v
+      go : (is_open f.0.finished ≡ true) ⊎ (is_open f.0.finished ≡ false) → Claim t c e v
       go (inl opened) = inr (inl (f.0, f.1, opened, f.3))
       go (inr shut) = inl (f.0, f.1, f.2, shut, f.3)
   answered_claim e v (inr f) = inr (inr f)
@@ -172,7 +173,7 @@ module _ (t : Task) (s : Sound t) (c : Chart) (inv : Inv t c) where
     claim_tree (rule n r {i} {j} e row) =
         sofar_whole n r i (past 0 r.right) j (row_weight row (t.weights.weigh r.mark)) e (past_length r.right) (row_end t s row)
         (claim_row row n r i 0 (t.weights.weigh r.mark) e (rule_code t s n r e)
-        (subst (Spells r.right 0) (take_whole r.right) (spells_take (length r.right) r.right)) (refl, refl))
+        (subst (Spells r.right 0) (take_all (length r.right) r.right (omega arith)) (spells_take (length r.right) r.right)) (refl, refl))
 
     claim_row : {xs : List ℕ} {i j : ℕ} (row : Row t xs i j) (n : ℕ) (r : Rule) (h k u : ℕ) → slice_get t.rules n ≡ Some r → Code u →
         Spells r.right k xs → Sofar n r h k i u → Sofar n r h (past k xs) j (row_weight row u)

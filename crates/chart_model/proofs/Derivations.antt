@@ -3,6 +3,7 @@
 use Rattle.std.proofs.Common.{◌≡◌, ℕ, suc, ◌^◌, ◌<◌, ◌≤◌, Bool, true, false, eqb, ltb, leb, List, [], ◌∷◌, ◌++◌, length, take, Some, sym, refl, ap, ◌∙◌, subst, append_assoc, append-nil, le_trans, le_refl, arith}
 use Rattle.std.specs.List.{slice_get}
 use Rattle.std.proofs.lemmas.Bool.{and_parts, ltb-true, eqb-true, eqb-false}
+use Rattle.std.proofs.lemmas.List.{take_all}
 use Rattle.records.proofs.Every.{every_nth}
 use Rattle.weighing.specs.Laws.{Code, Mark}
 use Rattle.grammar.specs.Rules.{Rule, most_symbols, rule_within}
@@ -17,7 +18,7 @@ use Rattle.chart_model.specs.declared.node.Kind.TheVariants.{Rule as RuleNode}
 use Rattle.chart_model.specs.declared.node.Node.{Node}
 use Rattle.chart_model.specs.declared.edge.Edge.{Edge}
 use Rattle.chart_model.specs.declared.edge.Edge.TheVariants.{Passive, Active}
-use Rattle.chart_model.proofs.Members.{take_one_more, take_whole}
+use Rattle.chart_model.proofs.Members.{take_one_more}
 
 -- the nodes of a derivation; an active edge has none of its own
 abbrev pub nodes_of : (t : Task) (e : Edge) → Derives t e → List Node
@@ -139,7 +140,7 @@ module _ (t : Task) (s : Sound t) where
     where
       go : (test : Bool) → eqb k (length r.right) ≡ test → RuleReads t n ns (elim test [ true ↦ Passive r.left i j | false ↦ Active n k i j ]) v
       go true h =
-          let whole = subst (λ xs. Rows t r xs i j v ns) (ap (λ m. take m r.right) (eqb-true k (length r.right) h) ∙ take_whole r.right) b in
+          let whole = subst (λ xs. Rows t r xs i j v ns) (ap (λ m. take m r.right) (eqb-true k (length r.right) h) ∙ take_all (length r.right) r.right (omega arith)) b in
           (rule n r e whole.0, whole.1, ap (λ ms. node RuleNode n i j ∷ ms) whole.2)
       go false h =
           let apart = eqb-false k (length r.right) h in

@@ -3,8 +3,7 @@ use Rattle.std.proofs.Common.{◌≡◌, true, false, ◌&&◌, eqb, sym, refl, 
 use Rattle.chart_model.specs.Plain.{same_edge}
 use Rattle.chart_model.specs.declared.edge.Edge.{Edge}
 use Rattle.chart_model.specs.declared.edge.Edge.TheVariants.{Passive, Active}
-use Rattle.std.proofs.lemmas.Bool.{false≢true, true≢false, and_parts, and_from, eqb-true, eq-eqb}
-use Rattle.chart_model.proofs.AtMost.{fails}
+use Rattle.std.proofs.lemmas.Bool.{false≢true, true≢false, false_from_ne_true, and_parts, and_from, eqb-true, eq-eqb}
 
 pub same_edge_true : (e f : Edge) → same_edge e f ≡ true → e ≡ f
 same_edge_true (Passive x i j) (Passive y k l) h =
@@ -31,4 +30,4 @@ pub same_edge_from : (e f : Edge) → e ≡ f → same_edge e f ≡ true
 same_edge_from e f p = subst (λ x. same_edge e x ≡ true) p (same_edge_refl e)
 
 pub same_edge_back : (e f : Edge) → same_edge e f ≡ false → same_edge f e ≡ false
-same_edge_back e f h = fails (same_edge f e) (λ s. true≢false (sym (same_edge_from e f (sym (same_edge_true f e s))) ∙ h))
+same_edge_back e f h = false_from_ne_true (same_edge f e) (λ s. true≢false (sym (same_edge_from e f (sym (same_edge_true f e s))) ∙ h))

@@ -47,12 +47,12 @@ finish_length number n [] = refl
 finish_length number zero (x ∷ ps) = refl
 finish_length number (suc n) (x ∷ ps) = ap suc (finish_length number n ps)
 
-pub finish_done : (number n : ℕ) (ps : List Place) (p : Place) → slice_get ps n ≡ Some p → is_open p.state ≡ true → done (finish number n ps) ≡ suc (done ps)
+pub finish_done : (number n : ℕ) (ps : List Place) (p : Place) → slice_get ps n ≡ Some p → is_open p.finished ≡ true → done (finish number n ps) ≡ suc (done ps)
 finish_done number n [] p e opened = absurd (none_some e)
 finish_done number zero (x ∷ ps) p e opened =
     ap (λ b. suc (elim b as (λ _. ℕ) [ true ↦ done ps | false ↦ suc (done ps) ]))
-    (sym (ap (λ (q : Place). is_open q.state) (some_same e) ∙ opened))
-finish_done number (suc n) (x ∷ ps) p e opened = ap (λ m. elim (is_open x.state) as (λ _. ℕ) [ true ↦ m | false ↦ suc m ]) (finish_done number n ps p e opened) ∙ go (is_open x.state)
+    (sym (ap (λ (q : Place). is_open q.finished) (some_same e) ∙ opened))
+finish_done number (suc n) (x ∷ ps) p e opened = ap (λ m. elim (is_open x.finished) as (λ _. ℕ) [ true ↦ m | false ↦ suc m ]) (finish_done number n ps p e opened) ∙ go (is_open x.finished)
   where
     go : (b : Bool) → elim b as (λ _. ℕ) [ true ↦ suc (done ps) | false ↦ suc (suc (done ps)) ] ≡ suc (elim b as (λ _. ℕ) [ true ↦ done ps | false ↦ suc (done ps) ])
     go true = refl

@@ -27,10 +27,10 @@ use Rattle.chart_model.proofs.Stepping.{Chosen, step_cases, inv_reached}
 
 -- finished places are where and as they were
 abbrev Stays : List Place → List Place → Type 0
-Stays ps qs = (n : ℕ) (p : Place) → slice_get ps n ≡ Some p → is_open p.state ≡ false → slice_get qs n ≡ Some p
+Stays ps qs = (n : ℕ) (p : Place) → slice_get ps n ≡ Some p → is_open p.finished ≡ false → slice_get qs n ≡ Some p
 
 module _ (lighter : ℕ → ℕ → Bool) (a : Arrival) where
-  improved_shut : (q : Place) → is_open q.state ≡ false → improved lighter a q ≡ q
+  improved_shut : (q : Place) → is_open q.finished ≡ false → improved lighter a q ≡ q
   improved_shut q shut = improved_cases lighter a q (λ r. r ≡ q) (λ opened _. absurd (true≢false (sym opened ∙ shut))) (λ _. refl)
 
   placed_stays : (ps : List Place) → Stays ps (placed lighter a ps)
@@ -38,7 +38,7 @@ module _ (lighter : ℕ → ℕ → Bool) (a : Arrival) where
   placed_stays (q ∷ ps) zero p e shut =
       let same = some_same e in
       placed_cases lighter a q ps (λ qs. slice_get qs 0 ≡ Some p)
-      (λ _. ap Some (improved_shut q (ap (λ (r : Place). is_open r.state) same ∙ shut) ∙ same)) (λ _. e)
+      (λ _. ap Some (improved_shut q (ap (λ (r : Place). is_open r.finished) same ∙ shut) ∙ same)) (λ _. e)
   placed_stays (q ∷ ps) (suc n) p e shut =
       placed_cases lighter a q ps (λ qs. slice_get qs (suc n) ≡ Some p) (λ _. e) (λ _. placed_stays ps n p e shut)
 
@@ -51,10 +51,10 @@ arrive_all_stays capacity lighter as' c =
     arrive_all_keep capacity lighter (λ d. Stays c.places d.places) as'
     (λ a _ d h n p e shut. arrive_stays lighter a capacity d n p (h n p e shut) shut) c (λ n p e _. e)
 
-finish_stays : (m k : ℕ) (ps : List Place) (q : Place) → slice_get ps k ≡ Some q → is_open q.state ≡ true → Stays ps (finish m k ps)
+finish_stays : (m k : ℕ) (ps : List Place) (q : Place) → slice_get ps k ≡ Some q → is_open q.finished ≡ true → Stays ps (finish m k ps)
 finish_stays m k [] q there opened n p e shut = absurd (none_some e)
 finish_stays m zero (x ∷ ps) q there opened zero p e shut =
-    absurd (true≢false (sym opened ∙ ap (λ (r : Place). is_open r.state) (sym (some_same there) ∙ some_same e) ∙ shut))
+    absurd (true≢false (sym opened ∙ ap (λ (r : Place). is_open r.finished) (sym (some_same there) ∙ some_same e) ∙ shut))
 finish_stays m zero (x ∷ ps) q there opened (suc n) p e shut = e
 finish_stays m (suc k) (x ∷ ps) q there opened zero p e shut = e
 finish_stays m (suc k) (x ∷ ps) q there opened (suc n) p e shut = finish_stays m k ps q there opened n p e shut

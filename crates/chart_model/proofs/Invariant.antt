@@ -25,7 +25,7 @@ pub record Inv (t : Task) (c : Chart) : Type 0 where
   -- no edge has two places
   pub distinct : apart c.places
   -- no finished edge is heavier than an open one
-  pub ordered : (p q : Place) → In p c.places → In q c.places → is_open p.state ≡ false → is_open q.state ≡ true →
+  pub ordered : (p q : Place) → In p c.places → In q c.places → is_open p.finished ≡ false → is_open q.finished ≡ true →
       AtMost t.weights p.weight q.weight
   -- all that follows from words, empty rules and finished edges is answered
   pub words : (n : ℕ) (e : Edge) (v : ℕ) → ByWord t n e v → Answered t.weights c e v
@@ -63,7 +63,7 @@ module _ (t : Task) (s : Sound t) (capacity : ℕ) where
   opening_answered a i =
       arrive_all_answers capacity t.weights s.weighing (first_arrivals t) opening_code blank (λ p j. absurd j) a i (λ p j _. absurd j)
 
-  none_finished : (p : Place) → In p (opened t capacity).places → is_open p.state ≡ false → ⊥
+  none_finished : (p : Place) → In p (opened t capacity).places → is_open p.finished ≡ false → ⊥
   none_finished p i shut = arrive_all_finished capacity t.weights.lighter (first_arrivals t) blank p i shut
 
   none_standing : (q : Standing) → AtPlace (opened t capacity).places q → ⊥

@@ -2,7 +2,7 @@
 use Rattle.std.proofs.Common.{◌≡◌, ℕ, zero, suc, ◌+◌, ◌<◌, Bool, true, ◌⊎◌, List, [], ◌∷◌, ◌++◌, length, take, Some, None, Option, refl, ap, subst, inl, inr, arith}
 use Rattle.std.specs.List.{slice_get}
 use Rattle.std.proofs.lemmas.Bool.{and_from}
-use Rattle.records.specs.Lists.{every}
+use Rattle.std.specs.List.{list_all}
 use Rattle.records.proofs.Every.{every_nth}
 
 abbrev pub In : {A : Type 0} → A → List A → Type 0
@@ -46,22 +46,18 @@ nth_below (x ∷ xs) (suc n) a e = let h : n < length xs = nth_below xs n a e in
 
 -- a test that every member passes
 module _ {A : Type 0} (passes : A → Bool) where
-  pub every_in : (xs : List A) → every passes xs ≡ true → (a : A) → In a xs → passes a ≡ true
+  pub every_in : (xs : List A) → list_all passes xs ≡ true → (a : A) → In a xs → passes a ≡ true
   every_in xs all a i = let (n, e) = in_nth xs a i in every_nth passes xs n a all e
 
-  pub every_from : (xs : List A) → ((a : A) → In a xs → passes a ≡ true) → every passes xs ≡ true
+  pub every_from : (xs : List A) → ((a : A) → In a xs → passes a ≡ true) → list_all passes xs ≡ true
   every_from [] each = refl
-  every_from (x ∷ xs) each = and_from (passes x) (every passes xs) (each x (inl refl)) (every_from xs (λ a i. each a (inr i)))
+  every_from (x ∷ xs) each = and_from (passes x) (list_all passes xs) (each x (inl refl)) (every_from xs (λ a i. each a (inr i)))
 
 -- one more element
 pub take_one_more : {A : Type 0} (xs : List A) (n : ℕ) (a : A) → slice_get xs n ≡ Some a → take (suc n) xs ≡ take n xs ++ (a ∷ [])
 take_one_more [] n a e = absurd (none_some e)
 take_one_more (x ∷ xs) zero a e = ap (λ y. y ∷ []) (some_same e)
 take_one_more (x ∷ xs) (suc n) a e = ap (λ ys. x ∷ ys) (take_one_more xs n a e)
-
-pub take_whole : {A : Type 0} (xs : List A) → take (length xs) xs ≡ xs
-take_whole [] = refl
-take_whole (x ∷ xs) = ap (λ ys. x ∷ ys) (take_whole xs)
 
 -- a is number k of the list, counted from n
 abbrev pub At : {A : Type 0} → List A → ℕ → ℕ → A → Type 0

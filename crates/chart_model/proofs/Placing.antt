@@ -16,7 +16,7 @@ Reaches ws ps e v = (p : Place) × In p ps × (p.edge ≡ e) × AtMost ws p.weig
 
 -- no finished edge is heavier
 abbrev pub Beyond : Weights → List Place → ℕ → Type 0
-Beyond ws ps v = (p : Place) → In p ps → is_open p.state ≡ false → AtMost ws p.weight v
+Beyond ws ps v = (p : Place) → In p ps → is_open p.finished ≡ false → AtMost ws p.weight v
 
 -- the places hold different edges
 abbrev pub apart : List Place → Type 0
@@ -25,15 +25,15 @@ apart (p ∷ ps) = (holds p.edge ps ≡ false) × apart ps
 
 -- the two ways of improving a place
 pub improved_cases : (lighter : ℕ → ℕ → Bool) (a : Arrival) (q : Place) (Q : Place → Type 0) →
-    (is_open q.state ≡ true → lighter a.weight q.weight ≡ true →
+    (is_open q.finished ≡ true → lighter a.weight q.weight ≡ true →
     Q (lightened a q)) →
-    ((is_open q.state && lighter a.weight q.weight) ≡ false → Q q) →
+    ((is_open q.finished && lighter a.weight q.weight) ≡ false → Q q) →
     Q (improved lighter a q)
-improved_cases lighter a q Q better same = go (is_open q.state && lighter a.weight q.weight) refl
+improved_cases lighter a q Q better same = go (is_open q.finished && lighter a.weight q.weight) refl
   where
-    go : (b : Bool) → (is_open q.state && lighter a.weight q.weight) ≡ b →
+    go : (b : Bool) → (is_open q.finished && lighter a.weight q.weight) ≡ b →
         Q (elim b [ true ↦ lightened a q | false ↦ q ])
-    go true h = let both = and_parts (is_open q.state) (lighter a.weight q.weight) h in better both.0 both.1
+    go true h = let both = and_parts (is_open q.finished) (lighter a.weight q.weight) h in better both.0 both.1
     go false h = same h
 
 -- the two ways of going on past a place
@@ -49,7 +49,7 @@ placed_cases lighter a q ps Q met passed = go (same_edge q.edge a.edge) refl
 
 -- the place is what the arrival left
 abbrev pub Brought : Arrival → Place → Type 0
-Brought a p = (is_open p.state ≡ true) × (p.edge ≡ a.edge) × (p.weight ≡ a.weight) × (p.origin ≡ a.origin)
+Brought a p = (is_open p.finished ≡ true) × (p.edge ≡ a.edge) × (p.weight ≡ a.weight) × (p.origin ≡ a.origin)
 
 pub placed_from : (lighter : ℕ → ℕ → Bool) (a : Arrival) (ps : List Place) (p : Place) → In p (placed lighter a ps) → In p ps ⊎ Brought a p
 placed_from lighter a [] p (inl e) = inr (subst (Brought a) e (refl, refl, refl, refl))
@@ -105,7 +105,7 @@ module _ (ws : Weights) (law : Lawful ws) (a : Arrival) (code : Code a.weight) w
       passed : Reaches ws (placed ws.lighter a ps) a.edge a.weight → Reaches ws (q ∷ placed ws.lighter a ps) a.edge a.weight
       passed s = (s.0, inr s.1, s.2, s.3)
 
-      kept : (is_open q.state ≡ false) ⊎ (ws.lighter a.weight q.weight ≡ false) → AtMost ws q.weight a.weight
+      kept : (is_open q.finished ≡ false) ⊎ (ws.lighter a.weight q.weight ≡ false) → AtMost ws q.weight a.weight
       kept (inl shut) = beyond q (inl refl) shut
       kept (inr heavy) = (codes q (inl refl), code, heavy)
 
@@ -118,14 +118,14 @@ module _ (ws : Weights) (law : Lawful ws) (a : Arrival) (code : Code a.weight) w
             same,
             at_most_refl ws law a.weight code,
           ))
-          (λ h. (q, inl refl, same, kept (and_cases (is_open q.state) (ws.lighter a.weight q.weight) h)))
+          (λ h. (q, inl refl, same, kept (and_cases (is_open q.finished) (ws.lighter a.weight q.weight) h)))
 
 module _ (lighter : ℕ → ℕ → Bool) (a : Arrival) where
   improved_edge : (q : Place) → (improved lighter a q).edge ≡ q.edge
   improved_edge q = improved_cases lighter a q (λ p. p.edge ≡ q.edge) (λ _ _. refl) (λ _. refl)
 
-  improved_open : (q : Place) → is_open (improved lighter a q).state ≡ is_open q.state
-  improved_open q = improved_cases lighter a q (λ p. is_open p.state ≡ is_open q.state) (λ _ _. refl) (λ _. refl)
+  improved_open : (q : Place) → is_open (improved lighter a q).finished ≡ is_open q.finished
+  improved_open q = improved_cases lighter a q (λ p. is_open p.finished ≡ is_open q.finished) (λ _ _. refl) (λ _. refl)
 
   pub placed_holds : (ps : List Place) (e : Edge) → holds e ps ≡ false → same_edge a.edge e ≡ false → holds e (placed lighter a ps) ≡ false
   placed_holds [] e h other = or_from (same_edge a.edge e) false other refl
@@ -147,7 +147,7 @@ module _ (lighter : ℕ → ℕ → Bool) (a : Arrival) where
   placed_done (q ∷ ps) =
       placed_cases lighter a q ps (λ qs. done qs ≡ done (q ∷ ps))
       (λ _. ap (λ b. elim b [ true ↦ done ps | false ↦ suc (done ps) ]) (improved_open q))
-      (λ _. ap (λ m. elim (is_open q.state) [ true ↦ m | false ↦ suc m ]) (placed_done ps))
+      (λ _. ap (λ m. elim (is_open q.finished) [ true ↦ m | false ↦ suc m ]) (placed_done ps))
 
   pub placed_length : (ps : List Place) → length (placed lighter a ps) ≤ suc (length ps)
   placed_length [] = omega arith

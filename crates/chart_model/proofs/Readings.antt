@@ -33,7 +33,7 @@ module _ (t : Task) (s : Sound t) (ps : List Place) where
   -- finished places with numbers up to a depth are read by following origins so deep
   abbrev ReadTo : ℕ → Type 0
   ReadTo depth =
-      (n : ℕ) (p : Place) → slice_get ps n ≡ Some p → is_open p.state ≡ false → number_at ps n ≤ depth → Reads t p.edge p.weight (followed depth ps n)
+      (n : ℕ) (p : Place) → slice_get ps n ≡ Some p → is_open p.finished ≡ false → number_at ps n ≤ depth → Reads t p.edge p.weight (followed depth ps n)
 
   -- so is what stands at such a place
   standing_reads : (depth : ℕ) → ReadTo depth → (q : Standing) → AtPlace ps q → (b : ℕ) → q.at ≡ b → number_at ps b ≤ depth → Reads t q.edge q.weight (followed depth ps b)

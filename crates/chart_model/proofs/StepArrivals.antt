@@ -15,8 +15,6 @@ use Rattle.chart_model.specs.declared.origin.Origin.TheVariants.{First, Next}
 use Rattle.chart_model.specs.declared.place.Arrival.{Arrival}
 use Rattle.chart_model.specs.declared.place.Place.{Place}
 use Rattle.chart_model.specs.declared.place.Standing.{Standing}
-use Rattle.chart_model.specs.declared.place.State.{State}
-use Rattle.chart_model.specs.declared.place.State.TheVariants.{Open, Finished}
 use Rattle.chart_model.proofs.Members.{In, in_either, in_nth, none_some, at_nth, nth_at}
 use Rattle.chart_model.proofs.Conclusions.{wants_true, wants_from}
 use Rattle.chart_model.proofs.Gathering.{Brings, brings_left, brings_right, some_arrival, gathered_from, gathered_all}
@@ -138,7 +136,7 @@ passive_takes_none t p q x i j same = ap (λ f. edge_takes t.rules t.weights p.a
 abbrev pub moved : ℕ → Standing → Standing
 moved n q = record { at = n; edge = q.edge; weight = q.weight }
 
-pub in_place : (ps : List Place) (p : Place) → In p ps → is_open p.state ≡ false → (q : Standing) → p.edge ≡ q.edge → p.weight ≡ q.weight → (n : ℕ) × AtPlace ps (moved n q)
+pub in_place : (ps : List Place) (p : Place) → In p ps → is_open p.finished ≡ false → (q : Standing) → p.edge ≡ q.edge → p.weight ≡ q.weight → (n : ℕ) × AtPlace ps (moved n q)
 in_place ps p i shut q edge weight =
     let (n, there) = in_nth ps p i in (n, record { place = p; there = there; shut = shut; edge = edge; weight = weight })
 
@@ -162,12 +160,12 @@ joined_moved m n j =
 abbrev standing_at : ℕ → Place → Standing
 standing_at n p = record { at = n; edge = p.edge; weight = p.weight }
 
-standing_shut : (n : ℕ) (p : Place) → is_open p.state ≡ false → standing n p ≡ Some (standing_at n p)
-standing_shut n p = go p.state
+standing_shut : (n : ℕ) (p : Place) → is_open p.finished ≡ false → standing n p ≡ Some (standing_at n p)
+standing_shut n p = go p.finished
   where
-    go : (m : State) → is_open m ≡ false → elim m as (λ _. Option Standing) [ Open ↦ None | Finished k ↦ Some (standing_at n p) ] ≡ Some (standing_at n p)
-    go Open shut = absurd (true≢false shut)
-    go (Finished k) shut = refl
+    go : (m : Option ℕ) → is_open m ≡ false → elim m as (λ _. Option Standing) [ None ↦ None | Some k ↦ Some (standing_at n p) ] ≡ Some (standing_at n p)
+    go None shut = absurd (true≢false shut)
+    go (Some k) shut = refl
 
 module _ (t : Task) (s : Standing) (n : ℕ) (p : Place) where
   abbrev here : Standing
@@ -175,22 +173,22 @@ module _ (t : Task) (s : Standing) (n : ℕ) (p : Place) where
 
   -- a place that brings something is finished, and takes the edge or is taken by it
   place_brings_from : (a : Arrival) → place_brings t.rules t.weights s n p ≡ Some a →
-      (is_open p.state ≡ false) × ((takes t.rules t.weights (standing_at n p) s ≡ Some a) ⊎ (takes t.rules t.weights s (standing_at n p) ≡ Some a))
-  place_brings_from a = go p.state refl
+      (is_open p.finished ≡ false) × ((takes t.rules t.weights (standing_at n p) s ≡ Some a) ⊎ (takes t.rules t.weights s (standing_at n p) ≡ Some a))
+  place_brings_from a = go p.finished refl
     where
       either : (o m : Option Arrival) → option_or o m ≡ Some a → (o ≡ Some a) ⊎ (m ≡ Some a)
       either None m h = inr h
       either (Some b) m h = inl h
 
-      go : (m : State) → p.state ≡ m →
-          elim (elim m as (λ _. Option Standing) [ Open ↦ None | Finished k ↦ Some (standing_at n p) ]) as (λ _. Option Arrival)
+      go : (m : Option ℕ) → p.finished ≡ m →
+          elim (elim m as (λ _. Option Standing) [ None ↦ None | Some k ↦ Some (standing_at n p) ]) as (λ _. Option Arrival)
           [ None ↦ None | Some q ↦ option_or (takes t.rules t.weights q s) (takes t.rules t.weights s q) ] ≡ Some a →
-          (is_open p.state ≡ false) × ((takes t.rules t.weights (standing_at n p) s ≡ Some a) ⊎ (takes t.rules t.weights s (standing_at n p) ≡ Some a))
-      go Open same h = absurd (none_some h)
-      go (Finished k) same h =
+          (is_open p.finished ≡ false) × ((takes t.rules t.weights (standing_at n p) s ≡ Some a) ⊎ (takes t.rules t.weights s (standing_at n p) ≡ Some a))
+      go None same h = absurd (none_some h)
+      go (Some k) same h =
           (ap is_open same, either (takes t.rules t.weights (standing_at n p) s) (takes t.rules t.weights s (standing_at n p)) h)
 
-  finished_brings : is_open p.state ≡ false →
+  finished_brings : is_open p.finished ≡ false →
       place_brings t.rules t.weights s n p ≡ option_or (takes t.rules t.weights (standing_at n p) s) (takes t.rules t.weights s (standing_at n p))
   finished_brings shut =
       ap (λ o. elim o as (λ _. Option Arrival) [ None ↦ None | Some q ↦ option_or (takes t.rules t.weights q s) (takes t.rules t.weights s q) ])

@@ -26,12 +26,12 @@ use Rattle.chart_model.proofs.Invariant.{Inv, inv_coded, brings_answered, brough
 pub record Chosen (t : Task) (c : Chart) (n : ℕ) (p : Place) : Type 0 where
   pub not_full : c.full ≡ false
   pub there : slice_get c.places n ≡ Some p
-  pub still_open : is_open p.state ≡ true
-  pub lightest : (q : Place) → In q c.places → is_open q.state ≡ true → AtMost t.weights p.weight q.weight
+  pub still_open : is_open p.finished ≡ true
+  pub lightest : (q : Place) → In q c.places → is_open q.finished ≡ true → AtMost t.weights p.weight q.weight
 
 -- the two ways of a step: nothing changes, or a lightest open edge is finished
 pub step_cases : (t : Task) → Sound t → (capacity : ℕ) (c : Chart) → Coded c.places → (Q : Chart → Type 0) →
-    ((c.full ≡ true) ⊎ ((q : Place) → In q c.places → is_open q.state ≡ false) → Q c) →
+    ((c.full ≡ true) ⊎ ((q : Place) → In q c.places → is_open q.finished ≡ false) → Q c) →
     ((n : ℕ) (p : Place) → Chosen t c n p → Q (finished_at t capacity c n p)) →
     Q (step t capacity c)
 step_cases t s capacity c coded Q idle busy = go c.full refl
@@ -122,19 +122,19 @@ module _ (t : Task) (s : Sound t) (capacity : ℕ) (c : Chart) (inv : Inv t c) (
       go (inr e) = subst (λ (r : Place). Weighs t r.edge r.weight) e (inv.sound p p_in)
 
   -- the weight of the edge just finished parts the finished from the open
-  finished_below : (q : Place) → In q ps → is_open q.state ≡ false → AtMost t.weights q.weight p.weight
+  finished_below : (q : Place) → In q ps → is_open q.finished ≡ false → AtMost t.weights q.weight p.weight
   finished_below q i shut = go (from q i)
     where
       go : In q c.places ⊎ (ended number p ≡ q) → AtMost t.weights q.weight p.weight
       go (inl j) = inv.ordered q p j p_in shut chosen.still_open
       go (inr e) = subst (λ (r : Place). AtMost t.weights r.weight p.weight) e (at_most_refl t.weights s.weighing p.weight p_code)
 
-  open_above : (q : Place) → In q ps → is_open q.state ≡ true → AtMost t.weights p.weight q.weight
+  open_above : (q : Place) → In q ps → is_open q.finished ≡ true → AtMost t.weights p.weight q.weight
   open_above q i opened = go (from q i)
     where
       go : In q c.places ⊎ (ended number p ≡ q) → AtMost t.weights p.weight q.weight
       go (inl j) = chosen.lightest q j opened
-      go (inr e) = absurd (true≢false (sym opened ∙ ap (λ (r : Place). is_open r.state) (sym e)))
+      go (inr e) = absurd (true≢false (sym opened ∙ ap (λ (r : Place). is_open r.finished) (sym e)))
 
   arrival_good : (a : Arrival) → In a brought → Weighs t a.edge a.weight × AtMost t.weights p.weight a.weight
   arrival_good a i = follows_weighs t s ps ps_sound now (inv.sound p p_in) a.edge a.weight (arises_follows t now ps a (arrivals_from t now ps a i))
@@ -162,7 +162,7 @@ module _ (t : Task) (s : Sound t) (capacity : ℕ) (c : Chart) (inv : Inv t c) (
       (λ q j. weighs_code t s q.edge q.weight (ps_sound q j)) a i (arrival_beyond a i))
       e v (follows_brings t now ps e v f)
 
-  was_finished : (q : Place) → In q after.places → is_open q.state ≡ false → In q ps
+  was_finished : (q : Place) → In q after.places → is_open q.finished ≡ false → In q ps
   was_finished q i shut = arrive_all_finished capacity t.weights.lighter brought (finishing c n) q i shut
 
   was : (q : Place) → In q after.places → In q ps ⊎ ((a : Arrival) × In a brought × Brought a q)
@@ -172,7 +172,7 @@ module _ (t : Task) (s : Sound t) (capacity : ℕ) (c : Chart) (inv : Inv t c) (
   after_sound q (inl i) = ps_sound q i
   after_sound q (inr f) = brought_weighs t f.0 q f.2 (arrival_good f.0 f.1).0
 
-  after_open : (q : Place) → is_open q.state ≡ true → In q ps ⊎ ((a : Arrival) × In a brought × Brought a q) → AtMost t.weights p.weight q.weight
+  after_open : (q : Place) → is_open q.finished ≡ true → In q ps ⊎ ((a : Arrival) × In a brought × Brought a q) → AtMost t.weights p.weight q.weight
   after_open q opened (inl i) = open_above q i opened
   after_open q opened (inr f) = subst (AtMost t.weights p.weight) (sym f.2.2) (arrival_good f.0 f.1).1
 

@@ -33,7 +33,7 @@ fits_steps t s capacity (suc n) c inv fits =
 
 -- STOPPING
 
-shut_done : (ps : List Place) → ((q : Place) → In q ps → is_open q.state ≡ false) → length ps ≤ done ps
+shut_done : (ps : List Place) → ((q : Place) → In q ps → is_open q.finished ≡ false) → length ps ≤ done ps
 shut_done [] shut = omega arith
 shut_done (p ∷ ps) shut =
     let rest : length ps ≤ done ps = shut_done ps (λ q i. shut q (inr i)) in
@@ -41,7 +41,7 @@ shut_done (p ∷ ps) shut =
 
 -- nothing is open
 abbrev pub Shut : Chart → Type 0
-Shut c = (q : Place) → In q c.places → is_open q.state ≡ false
+Shut c = (q : Place) → In q c.places → is_open q.finished ≡ false
 
 pub stopped_means : (t : Task) → Sound t → (c : Chart) → Inv t c → stopped t c ≡ true → (c.full ≡ true) ⊎ Shut c
 stopped_means t s c inv = go c.full refl

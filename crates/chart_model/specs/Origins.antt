@@ -1,7 +1,6 @@
 -- Where the weights in a chart come from: each follows from what its origin names, which was finished before. Assumes nothing.
-use Rattle.std.specs.Prelude.{◌≡◌, ℕ, zero, suc, ◌≤◌, Bool, true, false, ◌&&◌, List, [], ◌∷◌, Some, nat_le, nat_lt}
-use Rattle.records.specs.Lists.{every}
-use Rattle.std.specs.List.{slice_get}
+use Rattle.std.specs.Prelude.{◌≡◌, ℕ, zero, suc, ◌≤◌, Bool, true, false, ◌&&◌, List, [], ◌∷◌, Some, None, Option, nat_le, nat_lt}
+use Rattle.std.specs.List.{list_all, slice_get}
 use Rattle.grammar.specs.Rules.{Rule}
 use Rattle.lattice.specs.declared.word.Word.{Word}
 use Rattle.chart_model.specs.Task.{Task}
@@ -10,8 +9,6 @@ use Rattle.chart_model.specs.declared.edge.Edge.{Edge}
 use Rattle.chart_model.specs.declared.edge.Edge.TheVariants.{Passive, Active}
 use Rattle.chart_model.specs.declared.origin.Origin.{Origin}
 use Rattle.chart_model.specs.declared.origin.Origin.TheVariants.{Word as FromWord, Empty, First, Next}
-use Rattle.chart_model.specs.declared.place.State.{State}
-use Rattle.chart_model.specs.declared.place.State.TheVariants.{Open, Finished}
 use Rattle.chart_model.specs.declared.place.Place.{Place}
 use Rattle.chart_model.specs.declared.place.Standing.{Standing}
 
@@ -74,7 +71,7 @@ pub record Joined (t : Task) (p q : Standing) (e : Edge) (v : ℕ) : Type 0 wher
 pub record AtPlace (ps : List Place) (q : Standing) : Type 0 where
   pub place : Place
   pub there : slice_get ps q.at ≡ Some place
-  pub shut : is_open place.state ≡ false
+  pub shut : is_open place.finished ≡ false
   pub edge : place.edge ≡ q.edge
   pub weight : place.weight ≡ q.weight
 
@@ -88,14 +85,14 @@ Agrees t ps e v (Next a b) = (p : Standing) × (p.at ≡ a) × AtPlace ps p × (
 -- THE ORDER OF FINISHING
 
 -- the number of a finished edge; 0 for an open one
-abbrev pub number_of : State → ℕ
-number_of Open = 0
-number_of (Finished m) = m
+abbrev pub number_of : Option ℕ → ℕ
+number_of None = 0
+number_of (Some m) = m
 
 -- the number of the edge at place n; 0 if there is none
 abbrev pub number_at : List Place → ℕ → ℕ
 number_at [] n = 0
-number_at (p ∷ ps) zero = number_of p.state
+number_at (p ∷ ps) zero = number_of p.finished
 number_at (p ∷ ps) (suc n) = number_at ps n
 
 -- the edge at place n is finished, with a number below a limit
@@ -109,21 +106,21 @@ names_earlier ps limit (First n b) = earlier ps limit b
 names_earlier ps limit (Next a b) = earlier ps limit a && earlier ps limit b
 
 -- the number that an edge has, or the next to be given
-abbrev pub due : ℕ → State → ℕ
-due finished Open = suc finished
-due finished (Finished m) = m
+abbrev pub due : ℕ → Option ℕ → ℕ
+due finished None = suc finished
+due finished (Some m) = m
 
 -- a number that has been given
-abbrev pub numbered : ℕ → State → Bool
-numbered finished Open = true
-numbered finished (Finished m) = nat_lt 0 m && nat_le m finished
+abbrev pub numbered : ℕ → Option ℕ → Bool
+numbered finished None = true
+numbered finished (Some m) = nat_lt 0 m && nat_le m finished
 
 -- the origin names only finished edges with lower numbers than its own edge has or will get
 abbrev pub in_order : Chart → Place → Bool
-in_order c p = numbered c.finished p.state && names_earlier c.places (due c.finished p.state) p.origin
+in_order c p = numbered c.finished p.finished && names_earlier c.places (due c.finished p.finished) p.origin
 
 abbrev pub orderly : Chart → Bool
-orderly c = every (in_order c) c.places
+orderly c = list_all (in_order c) c.places
 
 -- THE INVARIANT
 

@@ -9,8 +9,6 @@ use Rattle.chart_model.specs.Task.{Task}
 use Rattle.chart_model.specs.declared.edge.Edge.{Edge}
 use Rattle.chart_model.specs.declared.edge.Edge.TheVariants.{Passive, Active}
 use Rattle.chart_model.specs.declared.origin.Origin.TheVariants.{Word as FromWord, Empty, First, Next}
-use Rattle.chart_model.specs.declared.place.State.{State}
-use Rattle.chart_model.specs.declared.place.State.TheVariants.{Open, Finished}
 use Rattle.chart_model.specs.declared.place.Place.{Place}
 use Rattle.chart_model.specs.declared.place.Arrival.{Arrival}
 use Rattle.chart_model.specs.declared.place.Standing.{Standing}
@@ -27,14 +25,14 @@ same_edge (Passive x i j) (Active s m k l) = false
 same_edge (Active r n i j) (Passive y k l) = false
 same_edge (Active r n i j) (Active s m k l) = r == s && (n == m && (i == k && j == l))
 
-abbrev pub is_open : State → Bool
-is_open Open = true
-is_open (Finished n) = false
+abbrev pub is_open : Option ℕ → Bool
+is_open None = true
+is_open (Some n) = false
 
 -- how many places are finished
 abbrev pub done : List Place → ℕ
 done [] = 0
-done (p ∷ ps) = elim (is_open p.state) [ true ↦ done ps | false ↦ suc (done ps) ]
+done (p ∷ ps) = elim (is_open p.finished) [ true ↦ done ps | false ↦ suc (done ps) ]
 
 -- a change at one place
 abbrev pub modified : (Place → Place) → ℕ → List Place → List Place
@@ -50,15 +48,15 @@ gathered brings n (x ∷ xs) = option_to_list (brings n x) ++ gathered brings (s
 -- ARRIVALS
 
 abbrev pub fresh : Arrival → Place
-fresh a = record { edge = a.edge; weight = a.weight; origin = a.origin; state = Open }
+fresh a = record { edge = a.edge; weight = a.weight; origin = a.origin; finished = None }
 
 -- another weight and origin
 abbrev pub lightened : Arrival → Place → Place
-lightened a p = record { edge = p.edge; weight = a.weight; origin = a.origin; state = p.state }
+lightened a p = record { edge = p.edge; weight = a.weight; origin = a.origin; finished = p.finished }
 
 -- at its edge's place: a lighter weight replaces weight and origin while the edge is open
 abbrev pub improved : (ℕ → ℕ → Bool) → Arrival → Place → Place
-improved lighter a p = elim (is_open p.state && lighter a.weight p.weight) [ true ↦ lightened a p | false ↦ p ]
+improved lighter a p = elim (is_open p.finished && lighter a.weight p.weight) [ true ↦ lightened a p | false ↦ p ]
 
 -- at the edge's place, or at the next free one
 abbrev pub placed : (ℕ → ℕ → Bool) → Arrival → List Place → List Place
@@ -130,7 +128,7 @@ lighter_of lighter n w (Some k) = elim (lighter k.weight w) [ true ↦ Some k | 
 abbrev pub lightest_from : (ℕ → ℕ → Bool) → ℕ → List Place → Option Candidate
 lightest_from lighter n [] = None
 lightest_from lighter n (p ∷ ps) =
-    elim (is_open p.state) [
+    elim (is_open p.finished) [
       | true ↦ lighter_of lighter n p.weight (lightest_from lighter (suc n) ps)
       | false ↦ lightest_from lighter (suc n) ps
     ]
@@ -140,14 +138,14 @@ lightest_open lighter ps = lightest_from lighter 0 ps
 
 -- the edge at a place finished, with its number
 abbrev pub ended : ℕ → Place → Place
-ended number p = record { edge = p.edge; weight = p.weight; origin = p.origin; state = Finished number }
+ended number p = record { edge = p.edge; weight = p.weight; origin = p.origin; finished = Some number }
 
 abbrev pub finish : ℕ → ℕ → List Place → List Place
 finish number n ps = modified (ended number) n ps
 
 -- the finished edge at place n
 abbrev pub standing : ℕ → Place → Option Standing
-standing n p = elim p.state [ Open ↦ None | Finished m ↦ Some (record { at = n; edge = p.edge; weight = p.weight }) ]
+standing n p = elim p.finished [ None ↦ None | Some m ↦ Some (record { at = n; edge = p.edge; weight = p.weight }) ]
 
 -- rule n with its first k symbols over a stretch; with all of them, its left symbol
 abbrev pub reached : ℕ → Rule → ℕ → ℕ → ℕ → Edge
@@ -248,7 +246,7 @@ settled t capacity c = steps t capacity capacity c
 abbrev pub carried : Edge → List Place → Option ℕ
 carried e [] = None
 carried e (p ∷ ps) =
-    elim (same_edge p.edge e) [ true ↦ elim (is_open p.state) [ true ↦ None | false ↦ Some p.weight ] | false ↦ carried e ps ]
+    elim (same_edge p.edge e) [ true ↦ elim (is_open p.finished) [ true ↦ None | false ↦ Some p.weight ] | false ↦ carried e ps ]
 
 -- whether a stretch runs forward, or stays, up to the last node
 abbrev pub is_stretch : ℕ → ℕ → ℕ → Bool

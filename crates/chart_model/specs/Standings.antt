@@ -19,7 +19,7 @@ lighter_standing lighter s (Some later) = elim (lighter later.weight s.weight) [
 abbrev pub standing_from : (ℕ → ℕ → Bool) → ℕ → List Place → Option Standing
 standing_from lighter n [] = None
 standing_from lighter n (p ∷ ps) =
-    elim (is_open p.state) [
+    elim (is_open p.finished) [
       | true ↦ lighter_standing lighter (seen n p) (standing_from lighter (suc n) ps)
       | false ↦ standing_from lighter (suc n) ps
     ]

@@ -1,17 +1,17 @@
 -- Worked cases: small tasks, and what a chart with room for 1,024 edges answers to them. Assumes nothing.
-use Rattle.std.specs.Prelude.{◌≡◌, ℕ, ◌≤◌, List, [], ◌∷◌, length, Some, Ok, Err, Result, refl}
+use Rattle.std.specs.Prelude.{◌≡◌, ℕ, List, [], ◌∷◌, length, Ok, Err, Result, refl}
 use Rattle.std.proofs.Common.{lit≤}
 use Rattle.weighing.specs.Laws.{Weights}
 use Rattle.weighing.specs.Weighings.{sum_weights, worst_weights, chance_weights}
 use Rattle.grammar.specs.Rules.{Rule}
-use Rattle.grammar.specs.Count.{line, part, num, gap, one, two, box, opened, rewrites, count_rules}
+use Rattle.grammar.specs.Count.{line, part, gap, one, two, box, opened, rewrites, count_rules}
 use Rattle.grammar.specs.Surcharges.{surcharged}
 use Rattle.lattice.specs.declared.word.Word.{Word}
 use Rattle.lattice.specs.Heard.{largest_end}
 use Rattle.lattice.specs.Typed.{typed_words}
-use Rattle.chart_model.specs.Task.{Task, Sound}
+use Rattle.chart_model.specs.Task.{Task}
 use Rattle.chart_model.specs.Derivation.{Tree, word, rule, none, more, tree_weight}
-use Rattle.chart_model.specs.Plain.{Chart, step_answer, settled, working_answer, settled_answer}
+use Rattle.chart_model.specs.Plain.{step_answer, settled, working_answer, settled_answer}
 use Rattle.chart_model.specs.Stands.{after}
 use Rattle.chart_model.specs.declared.origin.Origin.{Origin}
 use Rattle.chart_model.specs.declared.origin.Origin.TheVariants.{Word as FromWord, First}

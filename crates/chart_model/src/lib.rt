@@ -17,37 +17,27 @@ pub mod origin;
 pub mod place;
 
 // The law of the lightest, for every grammar, lattice and weighing.
-pub fn lightest_law() -> u8
+pub fn lightest_law()
     ensures { (t : Task) → Sound t → LawOfTheLightest t }
-{
-    0
-}
+{}
 
 // Every chart that opening and steps lead to keeps the invariant of origins.
-pub fn origins_law() -> u8
+pub fn origins_law()
     ensures { (t : Task) → Sound t → (c : Chart) → Reached t c → Grounded t c }
-{
-    0
-}
+{}
 
 // What the origins of a finished symbol name lists a derivation of the weight that it carries, in every such chart.
-pub fn readings_law() -> u8
+pub fn readings_law()
     ensures { (t : Task) → Sound t → LawOfReadings t }
-{
-    0
-}
+{}
 
 // The worked cases come out, and the laws are not empty: a worked line is what they ask for.
-pub fn worked_cases() -> u8
+pub fn worked_cases()
     ensures come_out { AllComeOut cases }
     ensures lawful { Sound (two_boxes count_rules chance_weights) }
-{
-    0
-}
+{}
 
 // The worked cases are read as they should be.
-pub fn worked_readings() -> u8
+pub fn worked_readings()
     ensures { AllRead reading_cases }
-{
-    0
-}
+{}

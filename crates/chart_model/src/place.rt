@@ -1,24 +1,22 @@
 // The places of a chart, each with an edge, and what comes to them.
+ghost use Rattle.std.specs.Prelude.{◌≡◌};
+ghost use Rattle.chart_model.specs.Plain.{fresh};
+ghost use Rattle.chart_model.specs.Standings.{seen};
+
 use crate::edge::Edge;
 use crate::origin::Origin;
 
-// An open edge may still get lighter. A finished one has its number in the order of finishing, from 1.
-#[derive(Clone, Copy)]
-pub enum State {
-    Open,
-    Finished(u16),
-}
-
-#[derive(Clone, Copy)]
+// A finished edge has its number in the order of finishing, from 1; one without a number is open, and may still get lighter.
+#[derive(Clone, Copy, PartialEq, Eq, Debug)]
 pub struct Place {
     pub edge: Edge,
     pub weight: u64,
     pub origin: Origin,
-    pub state: State,
+    pub finished: Option<u16>,
 }
 
 // A weight and an origin, brought to an edge.
-#[derive(Clone, Copy)]
+#[derive(Clone, Copy, PartialEq, Eq, Debug)]
 pub struct Arrival {
     pub edge: Edge,
     pub weight: u64,
@@ -26,9 +24,52 @@ pub struct Arrival {
 }
 
 // A finished edge, with its place and its weight.
-#[derive(Clone, Copy)]
+#[derive(Clone, Copy, PartialEq, Eq, Debug)]
 pub struct Standing {
     pub at: u16,
     pub edge: Edge,
     pub weight: u64,
+}
+
+// What stands in room that no edge has taken yet.
+impl Default for Place {
+    fn default() -> Self {
+        Place {
+            edge: Edge::Passive {
+                symbol: 0,
+                from: 0,
+                to: 0,
+            },
+            weight: 0,
+            origin: Origin::Word(0),
+            finished: None,
+        }
+    }
+}
+
+// A new edge is open.
+impl From<Arrival> for Place {
+    ghost from_gives = { λ arrival place. place ≡ fresh arrival };
+
+    fn from(arrival: Arrival) -> Self {
+        Place {
+            edge: arrival.edge,
+            weight: arrival.weight,
+            origin: arrival.origin,
+            finished: None,
+        }
+    }
+}
+
+impl Place {
+    // The edge at place number `at`.
+    pub fn seen(self, at: u16) -> Standing
+        ensures { result ≡ seen at self }
+    {
+        Standing {
+            at,
+            edge: self.edge,
+            weight: self.weight,
+        }
+    }
 }
