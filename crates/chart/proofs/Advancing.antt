@@ -1,5 +1,7 @@
 -- One step as code takes it: nothing is open, or the edge that is found is finished and all that follows arrives. Assumes nothing.
 use Rattle.std.proofs.Common.{◌≡◌, ℕ, Bool, true, false, None, Some, Ok, Err, Option, Result, refl, sym, ap, ◌∙◌}
+use Rattle.std.specs.Result.{is_ok}
+use Rattle.std.proofs.lemmas.Bool.{true≢false, false≢true}
 use Rattle.chart_model.specs.Task.{Task}
 use Rattle.chart_model.specs.Plain.{Chart, step, step_answer}
 use Rattle.chart_model.specs.Standings.{lightest_standing, completed}
@@ -19,6 +21,15 @@ not_full c n e = go c.full e
     go : (b : Bool) → Ok n ≡ elim b as (λ _. Result ℕ StepRefusal) [ true ↦ Err Full | false ↦ Ok c.finished ] → b ≡ false
     go true e = absurd (err_ok (ap (told step_number) (sym e)))
     go false e = refl
+
+-- an answer that is told is a number of edges or of a refusal
+pub told_ok : (r : Result ℕ StepRefusal) (answer : Result ℕ ℕ) → is_ok r ≡ true → told step_number r ≡ answer → (n : ℕ) × (Ok n ≡ answer)
+told_ok (Ok n) answer ok said = (n, said)
+told_ok (Err e) answer ok said = absurd (false≢true ok)
+
+pub told_err : (r : Result ℕ StepRefusal) (answer : Result ℕ ℕ) → is_ok r ≡ false → told step_number r ≡ answer → (n : ℕ) × (Err n ≡ answer)
+told_err (Ok n) answer err said = absurd (true≢false err)
+told_err (Err e) answer err said = (step_number e, said)
 
 told_count : (d : Chart) → elim d.full as (λ _. Result ℕ ℕ) [ true ↦ Err 10 | false ↦ Ok d.finished ] ≡ told step_number (count_unless_full d)
 told_count d = go d.full

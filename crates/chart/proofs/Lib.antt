@@ -1,4 +1,3 @@
-pub mod Slots
 pub mod Finding
 pub mod Choosing
 pub mod Writing

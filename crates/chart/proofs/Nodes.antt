@@ -1,23 +1,15 @@
 -- The loop over the nodes of a lattice, at which the empty rules arrive. Assumes nothing.
-use Rattle.std.proofs.Common.{◌≡◌, ℕ, suc, ◌+◌, ◌-◌, ◌<◌, ◌≤◌, Bool, List, [], ◌∷◌, ◌++◌, sym, refl, ap, ◌∙◌, arith}
+use Rattle.std.proofs.Common.{◌≡◌, ℕ, suc, ◌+◌, ◌-◌, ◌<◌, List, ◌++◌, sym, ap, ◌∙◌, arith}
 use Rattle.weighing.specs.Laws.{Weights}
 use Rattle.grammar.specs.Rules.{Rule}
-use Rattle.chart_model.specs.Plain.{Chart, gathered, arrive, arrive_all, empty_brings, nodes_bring}
-use Rattle.chart_model.specs.declared.place.Arrival.{Arrival}
+use Rattle.chart_model.specs.Plain.{Chart, gathered, arrive_all, empty_brings, nodes_bring}
 use Rattle.chart.specs.View.{room}
-
--- arrivals after arrivals
-pub arrive_all-++ : (capacity : ℕ) (lighter : ℕ → ℕ → Bool) (c : Chart) (xs ys : List Arrival) → arrive_all capacity lighter c (xs ++ ys) ≡ arrive_all capacity lighter (arrive_all capacity lighter c xs) ys
-arrive_all-++ capacity lighter c [] ys = refl
-arrive_all-++ capacity lighter c (x ∷ xs) ys = arrive_all-++ capacity lighter (arrive capacity lighter c x) xs ys
+use Rattle.chart.proofs.Rounds.{arrive_all-++}
 
 module _ (ws : Weights) (rules : List Rule) (end : ℕ) where
   -- what the nodes from n on bring to the chart makes the whole
   pub record NodesLeft (n : ℕ) (c whole : Chart) : Type 0 where
     pub gives : arrive_all room ws.lighter c (nodes_bring ws rules n (end - n)) ≡ whole
-
-  pub nodes_all : (c : Chart) → NodesLeft 0 c (arrive_all room ws.lighter c (nodes_bring ws rules 0 end))
-  nodes_all c = let e : end - 0 ≡ end = omega arith in record { gives = ap (λ k. arrive_all room ws.lighter c (nodes_bring ws rules 0 k)) e }
 
   pub nodes_more : (n : ℕ) (c d whole : Chart) → n < end → NodesLeft n c whole → d ≡ arrive_all room ws.lighter c (gathered (empty_brings ws n) 0 rules) → NodesLeft (n + 1) d whole
   nodes_more n c d whole within left arrived =
@@ -31,6 +23,3 @@ module _ (ws : Weights) (rules : List Rule) (end : ℕ) where
             ∙ sym (ap (λ k. arrive_all room ws.lighter c (nodes_bring ws rules n k)) one_more ∙ ap (λ m. arrive_all room ws.lighter c (gathered (empty_brings ws n) 0 rules ++ nodes_bring ws rules m (end - (n + 1)))) next)
             ∙ left.gives;
       }
-
-  pub nodes_nothing : (n : ℕ) (c whole : Chart) → end ≤ n → NodesLeft n c whole → c ≡ whole
-  nodes_nothing n c whole past left = let none : end - n ≡ 0 = omega arith in sym (ap (λ k. arrive_all room ws.lighter c (nodes_bring ws rules n k)) none) ∙ left.gives

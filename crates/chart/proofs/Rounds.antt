@@ -1,12 +1,12 @@
--- Loops over numbered things that bring arrivals as they go. Assumes nothing.
-use Rattle.std.proofs.Common.{◌≡◌, ℕ, zero, suc, ◌+◌, ◌≤◌, Bool, List, [], ◌∷◌, ◌++◌, length, drop, Some, None, Option, sym, refl, ap, ◌∙◌, add-one}
+-- The loop over numbered things that bring arrivals as they go. Assumes nothing.
+use Rattle.std.proofs.Common.{◌≡◌, ℕ, zero, suc, ◌+◌, ◌-◌, ◌<◌, ◌≤◌, Bool, List, [], ◌∷◌, ◌++◌, length, drop, Some, None, Option, sym, refl, ap, ◌∙◌, arith}
 use Rattle.std.specs.List.{slice_get}
 use Rattle.std.specs.Option.{option_to_list}
 use Rattle.std.proofs.lemmas.List.{drop_all}
 use Rattle.chart_model.specs.Plain.{Chart, gathered, arrive, arrive_all}
 use Rattle.chart_model.specs.declared.place.Arrival.{Arrival}
 use Rattle.chart.specs.View.{room}
-use Rattle.chart.specs.Bringing.{brought_by}
+use Rattle.chart.specs.Bringing.{brought_by, brought, Later}
 
 -- what a list brings from number i on, counted from k: what stands there, and what is left
 brings_rest : {X : Type 0} (brings : ℕ → X → Option Arrival) (xs : List X) (i k : ℕ) →
@@ -16,32 +16,40 @@ brings_rest brings [] (suc i) k = refl
 brings_rest brings (x ∷ xs) zero k = refl
 brings_rest brings (x ∷ xs) (suc i) k = brings_rest brings xs i k
 
-module _ {X : Type 0} (brings : ℕ → X → Option Arrival) (xs : List X) (lighter : ℕ → ℕ → Bool) where
-  -- what the things from number i on bring to the chart makes the whole
-  pub record Left (i : ℕ) (c whole : Chart) : Type 0 where
-    pub gives : arrive_all room lighter c (gathered brings i (drop i xs)) ≡ whole
+-- arrivals after arrivals
+pub arrive_all-++ : (capacity : ℕ) (lighter : ℕ → ℕ → Bool) (c : Chart) (xs ys : List Arrival) → arrive_all capacity lighter c (xs ++ ys) ≡ arrive_all capacity lighter (arrive_all capacity lighter c xs) ys
+arrive_all-++ capacity lighter c [] ys = refl
+arrive_all-++ capacity lighter c (x ∷ xs) ys = arrive_all-++ capacity lighter (arrive capacity lighter c x) xs ys
 
-  rest : (i : ℕ) → gathered brings i (drop i xs) ≡ option_to_list (brought_by brings xs i) ++ gathered brings (i + 1) (drop (i + 1) xs)
-  rest i = brings_rest brings xs i i ∙ ap (λ n. option_to_list (brought_by brings xs i) ++ gathered brings n (drop n xs)) (sym (add-one i))
+module _ (f : ℕ → Option Arrival) (lighter : ℕ → ℕ → Bool) where
+  -- what the numbers from n to a count bring to the chart makes the whole
+  pub record Rest (n count : ℕ) (c whole : Chart) : Type 0 where
+    pub gives : arrive_all room lighter c (brought f n (count - n)) ≡ whole
 
-  pub left_all : (c : Chart) → Left 0 c (arrive_all room lighter c (gathered brings 0 xs))
-  left_all c = record { gives = refl }
+  pub rest_more : (n count : ℕ) (c d whole : Chart) (r : Option Arrival) → n < count → Rest n count c whole → r ≡ f n → d ≡ arrive_all room lighter c (option_to_list r) → Rest (n + 1) count d whole
+  rest_more n count c d whole r within so_far is arrived =
+      let later = brought f (n + 1) (count - (n + 1)) in
+      let one_more : count - n ≡ suc (count - (n + 1)) = omega arith in
+      let next : suc n ≡ n + 1 = omega arith in
+      record {
+        gives =
+            ap (λ x. arrive_all room lighter x later) arrived
+            ∙ sym (arrive_all-++ room lighter c (option_to_list r) later)
+            ∙ ap (λ o. arrive_all room lighter c (option_to_list o ++ later)) is
+            ∙ sym (ap (λ k. arrive_all room lighter c (brought f n k)) one_more ∙ ap (λ m. arrive_all room lighter c (option_to_list (f n) ++ brought f m (count - (n + 1)))) next)
+            ∙ so_far.gives;
+      }
 
-  module _ (i : ℕ) (c whole : Chart) (left : Left i c whole) where
-    pub left_none : None ≡ brought_by brings xs i → Left (i + 1) c whole
-    left_none none =
-        let later = gathered brings (i + 1) (drop (i + 1) xs) in
-        record { gives = sym (ap (arrive_all room lighter c) (rest i ∙ sym (ap (λ o. option_to_list o ++ later) none))) ∙ left.gives }
+pub later_more : (lighter : ℕ → ℕ → Bool) (b c d : Chart) (a : Arrival) → Later lighter b c → d ≡ arrive room lighter c a → Later lighter b d
+later_more lighter b c d a (as', h) arrived =
+    (as' ++ (a ∷ []), arrived ∙ ap (λ x. arrive room lighter x a) h ∙ sym (arrive_all-++ room lighter b as' (a ∷ [])))
 
-    pub left_some : (a : Arrival) → Some a ≡ brought_by brings xs i → (d : Chart) → d ≡ arrive room lighter c a → Left (i + 1) d whole
-    left_some a some d arrived =
-        let later = gathered brings (i + 1) (drop (i + 1) xs) in
-        record {
-          gives =
-              ap (λ x. arrive_all room lighter x later) arrived
-              ∙ sym (ap (arrive_all room lighter c) (rest i ∙ sym (ap (λ o. option_to_list o ++ later) some)))
-              ∙ left.gives;
-        }
+-- what a list brings is what its numbers bring
+module _ {X : Type 0} (brings : ℕ → X → Option Arrival) (xs : List X) where
+  brought_rest : (count i : ℕ) → length xs ≤ i + count → brought (brought_by brings xs) i count ≡ gathered brings i (drop i xs)
+  brought_rest zero i past = let none : drop i xs ≡ [] = drop_all i xs (omega arith) in sym (ap (gathered brings i) none)
+  brought_rest (suc count) i within =
+      ap (λ as'. option_to_list (brought_by brings xs i) ++ as') (brought_rest count (suc i) (omega arith)) ∙ sym (brings_rest brings xs i i)
 
-  pub left_nothing : (i : ℕ) (c whole : Chart) → length xs ≤ i → Left i c whole → c ≡ whole
-  left_nothing i c whole past left = sym (ap (λ ys. arrive_all room lighter c (gathered brings i ys)) (drop_all i xs past)) ∙ left.gives
+  pub brought_gathered : (count : ℕ) → length xs ≤ count → brought (brought_by brings xs) 0 count ≡ gathered brings 0 xs
+  brought_gathered count all = brought_rest count 0 (omega arith)

@@ -1,58 +1,23 @@
 -- What the answers to questions say of derivations. Assumes nothing.
-use Rattle.std.proofs.Common.{◌≡◌, ℕ, Bool, true, false, leb, Some, None, Ok, Err, Option, Result, sym, refl, ap, ◌∙◌, subst, arith}
+use Rattle.std.proofs.Common.{◌≡◌, ℕ, Bool, true, false, leb, Some, None, Ok, Err, Option, Result, sym, refl, ◌∙◌, subst}
 use Rattle.std.specs.Option.{ok_or}
 use Rattle.std.proofs.lemmas.Bool.{true≢false, and_parts, and_from, leb-true, le-leb}
-use Rattle.chart_model.specs.Task.{Task}
+use Rattle.chart_model.specs.Task.{Task, Sound}
 use Rattle.chart_model.specs.Derivation.{Derives, LiesWithin}
-use Rattle.chart_model.specs.Plain.{Chart, is_stretch, carried, working_answer, settled_answer}
+use Rattle.chart_model.specs.Plain.{Chart, is_stretch, carried}
 use Rattle.chart_model.specs.Stands.{Carries, Unfinished, Over, Stands, Settled, LawOfTheLightest}
 use Rattle.chart_model.specs.declared.edge.Edge.{Edge}
 use Rattle.chart_model.specs.declared.edge.Edge.TheVariants.{Passive}
-use Rattle.chart_model.proofs.Members.{none_some, some_same}
+use Rattle.chart_model.proofs.Law.{law_of_the_lightest}
 use Rattle.chart.specs.declared.refusal.QuestionRefusal.{QuestionRefusal}
 use Rattle.chart.specs.declared.refusal.QuestionRefusal.TheVariants as Question
 use Rattle.chart.specs.declared.refusal.SettledRefusal.{SettledRefusal}
 use Rattle.chart.specs.declared.refusal.SettledRefusal.TheVariants as Final
-use Rattle.chart.specs.Refusals.{question_number, settled_number, told}
-use Rattle.chart.specs.Saying.{asked, missing_from, Tells, WorkingSays, SettledSays}
+use Rattle.chart.specs.Saying.{FromOpening, FromSettling, asked, missing_from, Tells, WorkingSays, SettledSays}
 use Rattle.chart.specs.View.{room}
+use Rattle.chart.proofs.Reaching.{opening_stands, settling_rests}
 
-err_same : {E : Type 0} {a b : E} → ◌≡◌ {A = Result ℕ E} (Err a) (Err b) → a ≡ b
-err_same e = cc
-
-ok_same : {E : Type 0} {a b : ℕ} → ◌≡◌ {A = Result ℕ E} (Ok a) (Ok b) → a ≡ b
-ok_same e = cc
-
-ok_err : {E : Type 0} {a : ℕ} {b : E} → ◌≡◌ {A = Result ℕ E} (Ok a) (Err b) → ⊥
-ok_err e = let z : ◌≡◌ {A = ℕ} 0 1 = cc in omega arith
-
--- NUMBERS
-
-told_asked : {E : Type 0} (number : E → ℕ) (outside missing : E) (last : ℕ) (c : Chart) (x i j : ℕ) →
-    told number (asked outside missing last c x i j) ≡ asked (number outside) (number missing) last c x i j
-told_asked {E} number outside missing last c x i j = go (is_stretch last i j) (carried (Passive x i j) c.places)
-  where
-    go : (b : Bool) (o : Option ℕ) →
-        told number (elim b as (λ _. Result ℕ E) [ true ↦ ok_or o missing | false ↦ Err outside ]) ≡ elim b as (λ _. Result ℕ ℕ) [ true ↦ ok_or o (number missing) | false ↦ Err (number outside) ]
-    go true (Some w) = refl
-    go true None = refl
-    go false o = refl
-
-module _ (t : Task) (c : Chart) (x i j : ℕ) where
-  pub working_told : (r : Result ℕ QuestionRefusal) → r ≡ asked Question.NoStretch Question.NotFinished t.last c x i j → told question_number r ≡ working_answer t c x i j
-  working_told r h = ap (told question_number) h ∙ told_asked question_number Question.NoStretch Question.NotFinished t.last c x i j
-
-  missing_number : (full : Bool) → settled_number (missing_from full) ≡ elim full as (λ _. ℕ) [ true ↦ 10 | false ↦ 9 ]
-  missing_number true = refl
-  missing_number false = refl
-
-  pub settled_told : (r : Result ℕ SettledRefusal) → r ≡ asked Final.NoStretch (missing_from c.full) t.last c x i j → told settled_number r ≡ settled_answer t c x i j
-  settled_told r h =
-      ap (told settled_number) h
-      ∙ told_asked settled_number Final.NoStretch (missing_from c.full) t.last c x i j
-      ∙ ap (λ n. asked 7 n t.last c x i j) (missing_number c.full)
-
--- DERIVATIONS
+-- WHAT AN ANSWER SAYS, BY THE WAY IT CAME
 
 module _ (t : Task) (law : LawOfTheLightest t) (c : Chart) (stands : Stands t c) (x i j : ℕ) where
   abbrev edge : Edge
@@ -87,34 +52,34 @@ module _ (t : Task) (law : LawOfTheLightest t) (c : Chart) (stands : Stands t c)
     tells_by answer (is_outside out e) =
         record {
           stretch = (λ _. out, λ _. e);
-          finished = λ w. (λ f. absurd (ok_err (sym f ∙ e)), λ h. absurd (out (finished_within w h)));
-          derived = λ w f. absurd (ok_err (sym f ∙ e));
-          least = λ w f. absurd (ok_err (sym f ∙ e));
+          finished = λ w. (λ f. absurd cc, λ h. absurd (out (finished_within w h)));
+          derived = λ w f. absurd cc;
+          least = λ w f. absurd cc;
         }
     tells_by answer (is_finished v h e) =
         record {
-          stretch = (λ f. absurd (ok_err (sym e ∙ f)), λ out. absurd (out (finished_within v h)));
-          finished = λ w. (λ f. subst (Carries c edge) (ok_same (sym e ∙ f)) h, λ g. e ∙ ap Ok (some_same (sym h ∙ g)));
-          derived = λ w f. stands.derived edge w (subst (Carries c edge) (ok_same (sym e ∙ f)) h);
-          least = λ w f. stands.least edge w (subst (Carries c edge) (ok_same (sym e ∙ f)) h);
+          stretch = (λ f. absurd cc, λ out. absurd (out (finished_within v h)));
+          finished = λ w. (λ f. cc, λ g. cc);
+          derived = λ w f. stands.derived edge w (cc);
+          least = λ w f. stands.least edge w (cc);
         }
     tells_by answer (is_missing inside none e) =
         record {
-          stretch = (λ f. absurd (apart (err_same (sym e ∙ f))), λ out. absurd (out inside));
-          finished = λ w. (λ f. absurd (ok_err (sym f ∙ e)), λ h. absurd (none_some (sym none ∙ h)));
-          derived = λ w f. absurd (ok_err (sym f ∙ e));
-          least = λ w f. absurd (ok_err (sym f ∙ e));
+          stretch = (λ f. absurd (apart cc), λ out. absurd (out inside));
+          finished = λ w. (λ f. absurd cc, λ h. absurd cc);
+          derived = λ w f. absurd cc;
+          least = λ w f. absurd cc;
         }
 
     -- a refusal as missing comes exactly for an unfinished edge within the lattice
     missing_only : (answer : Result ℕ E) → Way outside missing answer → answer ≡ Err missing → Within × Unfinished c edge
-    missing_only answer (is_outside out e) f = absurd (apart (err_same (sym f ∙ e)))
-    missing_only answer (is_finished v h e) f = absurd (ok_err (sym e ∙ f))
+    missing_only answer (is_outside out e) f = absurd (apart cc)
+    missing_only answer (is_finished v h e) f = absurd cc
     missing_only answer (is_missing inside none e) f = (inside, none)
 
     only_missing : (answer : Result ℕ E) → Way outside missing answer → Within → Unfinished c edge → answer ≡ Err missing
     only_missing answer (is_outside out e) inside none = absurd (out inside)
-    only_missing answer (is_finished v h e) inside none = absurd (none_some (sym none ∙ h))
+    only_missing answer (is_finished v h e) inside none = absurd cc
     only_missing answer (is_missing _ _ e) inside none = e
 
   pub working_says : (r : Result ℕ QuestionRefusal) → r ≡ asked Question.NoStretch Question.NotFinished t.last c x i j → WorkingSays t c x i j r
@@ -126,26 +91,26 @@ module _ (t : Task) (law : LawOfTheLightest t) (c : Chart) (stands : Stands t c)
       }
     where
       apart : ◌≡◌ {A = QuestionRefusal} Question.NotFinished Question.NoStretch → ⊥
-      apart e = let z : ◌≡◌ {A = ℕ} 0 1 = cc in omega arith
+      apart e = cc
 
   module _ (settled : Settled t room c) where
     pub settled_says : (r : Result ℕ SettledRefusal) → r ≡ asked Final.NoStretch (missing_from c.full) t.last c x i j → SettledSays t c x i j r
     settled_says r h = go c.full refl (subst (Way Final.NoStretch (missing_from c.full)) (sym h) (way Final.NoStretch (missing_from c.full)))
       where
         full_apart : ◌≡◌ {A = SettledRefusal} Final.Full Final.NoStretch → ⊥
-        full_apart e = let z : ◌≡◌ {A = ℕ} 0 1 = cc in omega arith
+        full_apart e = cc
 
         none_apart : ◌≡◌ {A = SettledRefusal} Final.NoDerivation Final.NoStretch → ⊥
-        none_apart e = let z : ◌≡◌ {A = ℕ} 0 1 = cc in omega arith
+        none_apart e = cc
 
         full_none : ◌≡◌ {A = SettledRefusal} Final.Full Final.NoDerivation → ⊥
-        full_none e = let z : ◌≡◌ {A = ℕ} 0 1 = cc in omega arith
+        full_none e = cc
 
         -- a refusal that is not the one for missing edges does not come
         never : (a b : SettledRefusal) → (b ≡ Final.NoStretch → ⊥) → (a ≡ b → ⊥) → Way Final.NoStretch a r → r ≡ Err b → ⊥
-        never a b away other (is_outside out e) f = away (err_same (sym f ∙ e))
-        never a b away other (is_finished v h e) f = ok_err (sym e ∙ f)
-        never a b away other (is_missing inside none e) f = other (err_same (sym e ∙ f))
+        never a b away other (is_outside out e) f = away cc
+        never a b away other (is_finished v h e) f = cc
+        never a b away other (is_missing inside none e) f = other cc
 
         underived_missing : Way Final.NoStretch Final.NoDerivation r → Within → (Derives t edge → ⊥) → r ≡ Err Final.NoDerivation
         underived_missing (is_outside out e) inside none = absurd (out inside)
@@ -161,10 +126,21 @@ module _ (t : Task) (law : LawOfTheLightest t) (c : Chart) (stands : Stands t c)
               no_derivation = (λ e. absurd (never Final.Full Final.NoDerivation none_apart full_none how e), λ (inside, few, _). absurd (few over));
             }
         go false f how =
-            let few : Over t room → ⊥ = λ over. true≢false (sym (settled.over_only_full over) ∙ f) in
-            let underived : Unfinished c edge → Derives t edge → ⊥ = λ none d. let (w, h) = settled.all_finished f edge d in none_some (sym none ∙ h) in
+            let few : Over t room → ⊥ = λ over. let full = settled.over_only_full over in cc in
+            let underived : Unfinished c edge → Derives t edge → ⊥ = λ none d. let (w, h) = settled.all_finished f edge d in cc in
             record {
               tells = tells_by Final.NoStretch Final.NoDerivation none_apart r how;
               full = (λ e. absurd (never Final.NoDerivation Final.Full full_apart (λ e. full_none (sym e)) how e), λ (inside, none, over). absurd (few over));
               no_derivation = (λ e. let (inside, none) = missing_only Final.NoStretch Final.NoDerivation none_apart r how e in (inside, few, underived none), λ (inside, _, none). underived_missing how inside none);
             }
+
+-- WHAT THE CHARTS OF A SOUND TASK SAY
+
+module _ {t : Task} (s : Sound t) (c : Chart) where
+  pub opening_says : ∥ FromOpening t c ∥₁ → (x i j : ℕ) (r : Result ℕ QuestionRefusal) →
+      r ≡ asked Question.NoStretch Question.NotFinished t.last c x i j → WorkingSays t c x i j r
+  opening_says from = working_says t (law_of_the_lightest t s) c (opening_stands s c from)
+
+  pub settling_says : ∥ FromSettling t c ∥₁ → (x i j : ℕ) (r : Result ℕ SettledRefusal) →
+      r ≡ asked Final.NoStretch (missing_from c.full) t.last c x i j → SettledSays t c x i j r
+  settling_says from x i j = let (stands, rests) = settling_rests s c from in settled_says t (law_of_the_lightest t s) c stands x i j rests

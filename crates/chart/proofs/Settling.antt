@@ -1,7 +1,8 @@
 -- Steps until one is refused. Assumes nothing.
-use Rattle.std.proofs.Common.{◌≡◌, ℕ, zero, suc, ◌-◌, ◌≤◌, Bool, true, false, ◌⊎◌, Some, None, Ok, Err, Option, Result, sym, refl, ap, ◌∙◌, inl, inr, arith}
+use Rattle.std.proofs.Common.{◌≡◌, ℕ, zero, suc, ◌-◌, ◌≤◌, Bool, true, false, ◌⊎◌, length, Some, None, Ok, Err, Option, Result, sym, refl, ap, ◌∙◌, subst, inl, inr, arith}
 use Rattle.chart_model.specs.Task.{Task}
-use Rattle.chart_model.specs.Plain.{Chart, done, finishing, arrivals, step, step_answer, steps, settled}
+use Rattle.chart_model.specs.Plain.{Chart, done, opened, finishing, arrivals, step, step_answer, steps, settled}
+use Rattle.chart_model.specs.Stands.{after}
 use Rattle.chart_model.specs.Standings.{lightest_standing, completed}
 use Rattle.chart_model.specs.declared.place.Standing.{Standing}
 use Rattle.chart_model.proofs.Arriving.{arrive_all_count}
@@ -9,18 +10,14 @@ use Rattle.chart_model.proofs.Lightest.{done_within}
 use Rattle.chart_model.proofs.Standings.{step_finds, answer_finds}
 use Rattle.chart.specs.declared.places.Places.{Places}
 use Rattle.chart.specs.View.{room, view}
-use Rattle.chart.proofs.Keeping.{view_within}
 
 -- there are no more finished edges than places
-pub finished_most : (p : Places) → done (view p).places ≡ p.finished → p.taken ≤ room → p.finished ≤ room
-finished_most p counted fits =
-    let most = done_within (view p).places in
-    let long = view_within p in
-    omega arith
+pub finished_most : (p : Places) → done (view p).places ≡ p.finished → length (view p).places ≤ room → p.finished ≤ room
+finished_most p counted fits = let most = done_within (view p).places in omega arith
 
 -- a refusal is no answer
 pub err_ok : {m n : ℕ} → ◌≡◌ {A = Result ℕ ℕ} (Err m) (Ok n) → ⊥
-err_ok e = let z : ◌≡◌ {A = ℕ} 0 1 = cc in omega arith
+err_ok e = cc
 
 module _ (t : Task) where
   -- what a step does and answers: nothing, refused; or it finishes one edge more, and is refused if the chart is full then
@@ -43,8 +40,8 @@ module _ (t : Task) where
   ways c = go c.full (lightest_standing t.weights.lighter c.places) (step t room c) (step_answer t room c) (step_finds t room c) (answer_finds t room c)
     where
       go : (b : Bool) (o : Option Standing) (d : Chart) (r : Result ℕ ℕ) → d ≡ stepped c b o → r ≡ answered d b o → Ways c d r
-      go true o d r now answer = inl (now, λ n e. err_ok (sym answer ∙ e))
-      go false None d r now answer = inl (now, λ n e. err_ok (sym answer ∙ e))
+      go true o d r now answer = inl (now, λ n e. cc)
+      go false None d r now answer = inl (now, λ n e. cc)
       go false (Some s) d r now answer = inr (ap (λ (x : Chart). x.finished) now ∙ counted c s, answer)
 
   -- a full chart takes no step
@@ -66,12 +63,26 @@ module _ (t : Task) where
     where
       full_then : (b : Bool) → (step t room c).full ≡ b → Err n ≡ elim b as (λ _. Result ℕ ℕ) [ true ↦ Err 10 | false ↦ Ok (step t room c).finished ] → (step t room c).full ≡ true
       full_then true f e = f
-      full_then false f e = absurd (err_ok e)
+      full_then false f e = cc
 
       go : Ways c (step t room c) (step_answer t room c) → (step t room d ≡ d) × ((d ≡ c) ⊎ (d.finished ≡ suc c.finished))
       go (inl (same, never)) = (ap (step t room) (next ∙ same) ∙ sym next, inl (next ∙ same))
       go (inr (more, how)) =
           (full_stays d (ap (λ (x : Chart). x.full) next ∙ full_then (step t room c).full refl (answer ∙ how)), inr (ap (λ (x : Chart). x.finished) next ∙ more))
+
+  pub steps_next : (n : ℕ) (c : Chart) → step t room (steps t room n c) ≡ steps t room (suc n) c
+  unfolding steps
+  steps_next zero c = refl
+  steps_next (suc n) c = steps_next n (step t room c)
+
+  -- a step leads from a chart that as many steps led to as edges are finished to another
+  pub next_counted : (b c : Chart) → c ≡ step t room b → b ≡ after t room b.finished → c ≡ after t room c.finished
+  next_counted b c next so_far = go (ways b)
+    where
+      go : Ways b (step t room b) (step_answer t room b) → c ≡ after t room c.finished
+      go (inl (same, never)) = subst (λ d. d ≡ after t room d.finished) (sym (next ∙ same)) so_far
+      go (inr (more, how)) =
+          next ∙ ap (step t room) so_far ∙ steps_next b.finished (opened t room) ∙ ap (after t room) (sym (ap (λ (x : Chart). x.finished) next ∙ more))
 
   stay : (n : ℕ) (c : Chart) → step t room c ≡ c → steps t room n c ≡ c
   unfolding steps
@@ -86,13 +97,6 @@ module _ (t : Task) where
   pub record Settles (before c : Chart) : Type 0 where
     pub gives : steps t room (room - (c.finished - before.finished)) c ≡ settled t room before
     pub grown : before.finished ≤ c.finished
-
-  pub settles_from : (c : Chart) → Settles c c
-  settles_from c =
-      record {
-        gives = let e : room - (c.finished - c.finished) ≡ room = omega arith in ap (λ n. steps t room n c) e;
-        grown = omega arith;
-      }
 
   module _ (before c d : Chart) (so_far : Settles before c) (next : d ≡ step t room c) (most : d.finished ≤ room) where
     left : d.finished ≡ suc c.finished → steps t room (room - (d.finished - before.finished)) d ≡ settled t room before

@@ -5,25 +5,24 @@ use Rattle.std.specs.Option.{option_to_list}
 use Rattle.std.proofs.lemmas.Bool.{false≢true}
 use Rattle.weighing.specs.Laws.{Weights}
 use Rattle.grammar.specs.Rules.{Rule}
-use Rattle.chart_model.specs.Plain.{Chart, is_open, standing, lightened, improved, placed, arrive, arrive_all, gathered, place_brings}
+use Rattle.chart_model.specs.Plain.{Chart, is_open, standing, lightened, improved, placed, arrive, arrive_all, gathered, rule_brings, place_brings}
 use Rattle.chart_model.specs.Standings.{seen}
 use Rattle.chart_model.specs.declared.place.Arrival.{Arrival}
 use Rattle.chart_model.specs.declared.place.Place.{Place}
 use Rattle.chart_model.specs.declared.place.Standing.{Standing}
-use Rattle.chart_model.specs.declared.place.State.{State}
-use Rattle.chart_model.specs.declared.place.State.TheVariants.{Open, Finished}
 use Rattle.chart_model.proofs.Placing.{improved_cases, placed_cases}
 use Rattle.chart_model.proofs.Arriving.{arrive_cases, arrive_all_keep}
 use Rattle.chart.specs.View.{room, standing_at}
-use Rattle.chart.specs.Bringing.{brought_by, meet}
+use Rattle.chart.specs.Bringing.{brought_by, meet, Later}
+use Rattle.chart.proofs.Rounds.{arrive_all-++}
 
 -- an open place stands for nothing
-open_none : (m : ℕ) (p : Place) → is_open p.state ≡ true → standing m p ≡ None
-open_none m p = go p.state
+open_none : (m : ℕ) (p : Place) → is_open p.finished ≡ true → standing m p ≡ None
+open_none m p = go p.finished
   where
-    go : (s : State) → is_open s ≡ true → elim s as (λ _. Option Standing) [ Open ↦ None | Finished k ↦ Some (seen m p) ] ≡ None
-    go Open h = refl
-    go (Finished k) h = absurd (false≢true h)
+    go : (s : Option ℕ) → is_open s ≡ true → elim s as (λ _. Option Standing) [ None ↦ None | Some k ↦ Some (seen m p) ] ≡ None
+    go None h = refl
+    go (Some k) h = absurd (false≢true h)
 
 -- what stands finished at number n, told as number m
 abbrev stands : ℕ → List Place → ℕ → Option Standing
@@ -47,7 +46,7 @@ module _ (lighter : ℕ → ℕ → Bool) (a : Arrival) (m : ℕ) where
 abbrev pub SameStanding : List Place → Chart → Type 0
 SameStanding ps c = (n : ℕ) → standing_at c.places n ≡ standing_at ps n
 
-pub same_arrive : (lighter : ℕ → ℕ → Bool) (ps : List Place) (c d : Chart) (a : Arrival) → d ≡ arrive room lighter c a → SameStanding ps c → SameStanding ps d
+same_arrive : (lighter : ℕ → ℕ → Bool) (ps : List Place) (c d : Chart) (a : Arrival) → d ≡ arrive room lighter c a → SameStanding ps c → SameStanding ps d
 same_arrive lighter ps c d a arrived same n =
     ap (λ (x : Chart). standing_at x.places n) arrived
     ∙ arrive_cases room lighter c a (λ x. standing_at x.places n ≡ standing_at c.places n)
@@ -66,12 +65,22 @@ module _ (rules : List Rule) (ws : Weights) (s : Standing) (lighter : ℕ → �
       (λ _. ap (λ o. brought n o ++ gathered (place_brings rules ws s) (suc n) ps) (improved_stands lighter a n p))
       (λ _. ap (λ as'. brought n (standing n p) ++ as') (gathered_placed a (suc n) ps))
 
-  pub gathered_arrive_all : (as' : List Arrival) (c : Chart) →
+  gathered_arrive_all : (as' : List Arrival) (c : Chart) →
       gathered (place_brings rules ws s) 0 (arrive_all room lighter c as').places ≡ gathered (place_brings rules ws s) 0 c.places
   gathered_arrive_all as' c =
       arrive_all_keep room lighter (λ d. gathered (place_brings rules ws s) 0 d.places ≡ gathered (place_brings rules ws s) 0 c.places) as'
       (λ a _ d h. arrive_cases room lighter d a (λ x. gathered (place_brings rules ws s) 0 x.places ≡ gathered (place_brings rules ws s) 0 c.places)
       (λ _. h) (λ _ _. gathered_placed a 0 d.places ∙ h) (λ _ _ _. h)) c refl
+
+  -- what the rules bring, and then the places, is all that follows
+  pub spreads : (c d : Chart) → d ≡ arrive_all room lighter c (gathered (rule_brings ws s) 0 rules) →
+      arrive_all room lighter d (gathered (place_brings rules ws s) 0 d.places)
+      ≡ arrive_all room lighter c (gathered (rule_brings ws s) 0 rules ++ gathered (place_brings rules ws s) 0 c.places)
+  spreads c d by_rules =
+      let first = gathered (rule_brings ws s) 0 rules in
+      ap (λ x. arrive_all room lighter x (gathered (place_brings rules ws s) 0 x.places)) by_rules
+      ∙ ap (arrive_all room lighter (arrive_all room lighter c first)) (gathered_arrive_all first c)
+      ∙ sym (arrive_all-++ room lighter c first (gathered (place_brings rules ws s) 0 c.places))
 
 -- what a place brings, by what stands there
 place_brought : (rules : List Rule) (ws : Weights) (s : Standing) (ps : List Place) (n : ℕ) →
@@ -84,12 +93,11 @@ place_brought rules ws s ps n = go (slice_get ps n)
     go None = refl
     go (Some p) = refl
 
--- at a place of a chart whose finished edges are those of ps
-module _ (rules : List Rule) (ws : Weights) (s : Standing) (ps : List Place) (c : Chart) (same : SameStanding ps c) (n : ℕ) where
-  pub stands_nothing : None ≡ standing_at c.places n → None ≡ brought_by (place_brings rules ws s) ps n
-  stands_nothing none =
-      sym (place_brought rules ws s ps n ∙ ap (λ (o : Option Standing). elim o as (λ _. Option Arrival) [ None ↦ None | Some r ↦ meet rules ws r s ]) (sym (none ∙ same n)))
-
-  pub stands_meets : (q : Standing) → Some q ≡ standing_at c.places n → meet rules ws q s ≡ brought_by (place_brings rules ws s) ps n
-  stands_meets q there =
-      sym (place_brought rules ws s ps n ∙ ap (λ (o : Option Standing). elim o as (λ _. Option Arrival) [ None ↦ None | Some r ↦ meet rules ws r s ]) (sym (there ∙ same n)))
+-- at a place of a chart that is another one after some arrivals
+pub places_later : (rules : List Rule) (ws : Weights) (s : Standing) (lighter : ℕ → ℕ → Bool) (c d : Chart) → Later lighter c d → (n : ℕ) →
+    brought_by (place_brings rules ws s) d.places n ≡ brought_by (place_brings rules ws s) c.places n
+places_later rules ws s lighter c d (as', h) n =
+    let same = arrive_all_keep room lighter (SameStanding c.places) as' (λ a _ x. same_arrive lighter c.places x (arrive room lighter x a) a refl) c (λ k. refl) n in
+    place_brought rules ws s d.places n
+    ∙ ap (λ (o : Option Standing). elim o as (λ _. Option Arrival) [ None ↦ None | Some r ↦ meet rules ws r s ]) (ap (λ (x : Chart). standing_at x.places n) h ∙ same)
+    ∙ sym (place_brought rules ws s c.places n)

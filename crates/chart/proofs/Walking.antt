@@ -1,5 +1,5 @@
 -- A walk over the origins of a table, from a finished place. Assumes nothing.
-use Rattle.std.proofs.Common.{◌≡◌, ℕ, zero, suc, ◌<◌, ◌≤◌, true, false, List, [], ◌++◌, length, Some, None, Option, sym, refl, ap, ◌∙◌, subst, append-nil, arith}
+use Rattle.std.proofs.Common.{◌≡◌, ℕ, zero, suc, ◌<◌, ◌≤◌, true, false, List, [], ◌++◌, length, Some, None, Option, sym, refl, ap, ◌∙◌, subst, arith}
 use Rattle.std.specs.List.{slice_get}
 use Rattle.std.proofs.lemmas.Bool.{and_parts}
 use Rattle.chart_model.specs.Plain.{Chart, is_open, done}
@@ -13,17 +13,18 @@ use Rattle.chart_model.specs.declared.node.Node.{Node}
 use Rattle.chart_model.specs.declared.place.Place.{Place}
 use Rattle.chart_model.proofs.Lightest.{done_within}
 use Rattle.chart_model.proofs.Members.{some_same}
-use Rattle.chart_model.proofs.Numbering.{earlier_parts, earlier_of, names_kept, number_shut, names_before}
+use Rattle.chart_model.proofs.Numbering.{earlier_parts, earlier_of, number_shut, names_before}
 use Rattle.chart_model.proofs.Readings.{followed_at}
 use Rattle.chart.specs.declared.table.Table.{Table}
+use Rattle.chart.specs.declared.reading.FinishedAt.{FinishedAt}
 use Rattle.chart.specs.Charts.{held}
-use Rattle.chart.specs.Reading.{own, Wrote}
+use Rattle.chart.specs.Reading.{own, own_at, Wrote}
 use Rattle.chart.proofs.Overlay.{wrote_none, wrote_more}
 
 -- THE NODES BELOW
 
 -- the nodes below an origin, by the nodes of a place
-abbrev pub below : (ℕ → List Node) → Origin → List Node
+abbrev below : (ℕ → List Node) → Origin → List Node
 below f (Word n) = []
 below f (Empty r) = []
 below f (First r c) = f c
@@ -70,7 +71,13 @@ module _ (c : Chart) (ordered : orderly c ≡ true) where
 
 -- A WALK, FROM A FINISHED PLACE
 
-module _ (u : Table) (n : ℕ) (p : Place) (here : slice_get (held u).places n ≡ Some p) (finished : earlier (held u).places (suc (held u).finished) n ≡ true) where
+module _ (s : FinishedAt) (p : Place) (here : slice_get (held s.table.now).places s.at ≡ Some p) where
+  abbrev u : Table
+  u = s.table.now
+
+  abbrev n : ℕ
+  n = s.at
+
   abbrev all : List Place
   all = (held u).places
 
@@ -78,13 +85,13 @@ module _ (u : Table) (n : ℕ) (p : Place) (here : slice_get (held u).places n �
   next = suc (held u).finished
 
   number : (0 < number_at all n) × (number_at all n < next)
-  number = earlier_parts all next n finished
+  number = earlier_parts all next n s.finished
 
   before_here : names_earlier all (number_at all n) p.origin ≡ true
   before_here =
       let (q, there, shut) = number_shut all n number.0 in
       let same : q ≡ p = some_same (sym there ∙ here) in
-      names_before (held u) u.orderly n p here (subst (λ (r : Place). is_open r.state ≡ false) same shut)
+      names_before (held u) u.orderly n p here (subst (λ (r : Place). is_open r.finished ≡ false) same shut)
 
   -- what was finished before this place was finished
   ended : (k : ℕ) → earlier all (number_at all n) k ≡ true → earlier all next k ≡ true
@@ -93,15 +100,17 @@ module _ (u : Table) (n : ℕ) (p : Place) (here : slice_get (held u).places n �
       let BelowNext = number.1 in
       earlier_of all next k low (omega arith)
 
-  pub origin_named : names_earlier all next p.origin ≡ true
-  origin_named = names_kept all all (number_at all n) next ended p.origin before_here
+  own_here : own_at all n ≡ own all p
+  own_here = ap (λ (o : Option Place). elim o as (λ _. List Node) [ None ↦ [] | Some q ↦ own all q ]) here
 
-  reading_here : reading_at all n ≡ own all p ++ below (reading_at all) p.origin
+  reading_here : reading_at all n ≡ own_at all n ++ below (reading_at all) p.origin
   reading_here =
       let (low, high) = number in
       let counted : done all ≡ (held u).finished = u.counted in
       let most = done_within all in
-      followed_same (held u) u.orderly (length all) (suc (length all)) n low (omega arith) (omega arith) ∙ followed_parts all (length all) n p here
+      followed_same (held u) u.orderly (length all) (suc (length all)) n low (omega arith) (omega arith)
+      ∙ followed_parts all (length all) n p here
+      ∙ ap (λ ns. ns ++ below (reading_at all) p.origin) (sym own_here)
 
   -- a place that the origin names was finished, and before this one
   pub record Child (k : ℕ) : Type 0 where
@@ -120,20 +129,16 @@ module _ (u : Table) (n : ℕ) (p : Place) (here : slice_get (held u).places n �
       (child a both.0, child k both.1)
 
   module _ (before middle : List Node) (filled : ℕ) where
-    pub walks_none : Wrote (own all p) before middle filled None → Wrote (reading_at all n) before middle filled None
+    pub walks_none : Wrote (own_at all n) before middle filled None → Wrote (reading_at all n) before middle filled None
     walks_none h =
-        subst (λ ns. Wrote ns before middle filled None) (sym reading_here) (wrote_none (own all p) (below (reading_at all) p.origin) before middle filled h)
+        subst (λ ns. Wrote ns before middle filled None) (sym reading_here) (wrote_none (own_at all n) (below (reading_at all) p.origin) before middle filled h)
 
-    module _ (so_far : ℕ) (first : Wrote (own all p) before middle filled (Some so_far)) where
-      pub walks_leaf : below (reading_at all) p.origin ≡ [] → Wrote (reading_at all n) before middle filled (Some so_far)
-      walks_leaf none =
-          subst (λ ns. Wrote ns before middle filled (Some so_far)) (sym (reading_here ∙ ap (λ ns. own all p ++ ns) none ∙ append-nil (own all p))) first
-
+    module _ (so_far : ℕ) (first : Wrote (own_at all n) before middle filled (Some so_far)) where
       module _ (after : List Node) where
         walks_below : (ns : List Node) (r : Option ℕ) → below (reading_at all) p.origin ≡ ns → Wrote ns middle after so_far r → Wrote (reading_at all n) before after filled r
         walks_below ns r e second =
-            subst (λ ms. Wrote ms before after filled r) (sym (reading_here ∙ ap (λ ms. own all p ++ ms) e))
-            (wrote_more (own all p) ns before middle filled so_far first after r second)
+            subst (λ ms. Wrote ms before after filled r) (sym (reading_here ∙ ap (λ ms. own_at all n ++ ms) e))
+            (wrote_more (own_at all n) ns before middle filled so_far first after r second)
 
         pub walks_first : (rule k : ℕ) (r : Option ℕ) → p.origin ≡ First rule k → Wrote (reading_at all k) middle after so_far r → Wrote (reading_at all n) before after filled r
         walks_first rule k r e second = walks_below (reading_at all k) r (ap (below (reading_at all)) e) second

@@ -1,33 +1,26 @@
--- What a write to a slot leaves of the taken places. Assumes nothing.
-use Rattle.std.proofs.Common.{◌≡◌, ℕ, zero, suc, List, [], ◌∷◌, get_or, take, set, refl, ap, ◌∙◌}
-use Rattle.chart_model.specs.Plain.{lightened, modified}
-use Rattle.chart_model.specs.declared.origin.Origin.{Origin}
-use Rattle.chart_model.specs.declared.place.Arrival.{Arrival}
+-- What a write to a place leaves of the places. Assumes nothing.
+use Rattle.std.proofs.Common.{◌≡◌, ℕ, zero, suc, List, [], ◌∷◌, length, get_or, set, refl, ap, ◌∙◌}
+use Rattle.std.specs.List.{refill}
+use Rattle.chart_model.specs.Plain.{modified}
 use Rattle.chart_model.specs.declared.place.Place.{Place}
 
--- a slot changed by f
-pub take_edit : (f : Place → Place) (d : Place) (n at : ℕ) (xs : List Place) → take n (set xs at (f (get_or xs at d))) ≡ modified f at (take n xs)
-take_edit f d zero at xs = refl
-take_edit f d (suc n) at [] = refl
-take_edit f d (suc n) zero (x ∷ xs) = refl
-take_edit f d (suc n) (suc at) (x ∷ xs) = ap (λ ys. x ∷ ys) (take_edit f d n at xs)
+set_modified : (f : Place → Place) (d : Place) (at : ℕ) (xs : List Place) → set xs at (f (get_or xs at d)) ≡ modified f at xs
+set_modified f d at [] = refl
+set_modified f d zero (x ∷ xs) = refl
+set_modified f d (suc at) (x ∷ xs) = ap (λ ys. x ∷ ys) (set_modified f d at xs)
 
-modified_twice : (f g : Place → Place) (at : ℕ) (xs : List Place) → modified g at (modified f at xs) ≡ modified (λ p. g (f p)) at xs
-modified_twice f g at [] = refl
-modified_twice f g zero (x ∷ xs) = refl
-modified_twice f g (suc at) (x ∷ xs) = ap (λ ys. x ∷ ys) (modified_twice f g at xs)
+refill_modified : (f : Place → Place) (at : ℕ) (xs : List Place) → refill (length xs) xs (modified f at xs) ≡ modified f at xs
+refill_modified f at [] = refl
+refill_modified f zero (x ∷ xs) = ap (λ ys. f x ∷ ys) (refill_same xs)
+  where
+    refill_same : (ys : List Place) → refill (length ys) ys ys ≡ ys
+    refill_same [] = refl
+    refill_same (y ∷ ys) = ap (λ zs. y ∷ zs) (refill_same ys)
+refill_modified f (suc at) (x ∷ xs) = ap (λ ys. x ∷ ys) (refill_modified f at xs)
 
-abbrev weighed : ℕ → Place → Place
-weighed w p = record { edge = p.edge; weight = w; origin = p.origin; state = p.state }
-
-abbrev traced : Origin → Place → Place
-traced o p = record { edge = p.edge; weight = p.weight; origin = o; state = p.state }
-
--- the writes of weight and of origin together
-pub take_lightened : (a : Arrival) (d : Place) (n at : ℕ) (xs : List Place) →
-    let ys = set xs at (weighed a.weight (get_or xs at d)) in
-    take n (set ys at (traced a.origin (get_or ys at d))) ≡ modified (lightened a) at (take n xs)
-take_lightened a d n at xs =
-    take_edit (traced a.origin) d n at (set xs at (weighed a.weight (get_or xs at d)))
-    ∙ ap (modified (traced a.origin) at) (take_edit (weighed a.weight) d n at xs)
-    ∙ modified_twice (weighed a.weight) (traced a.origin) at (take n xs)
+-- a place changed by f, through the slice of all places
+pub wrote : (f : Place → Place) (d : Place) (at : ℕ) (xs ys : List Place) (y : Place) → ys ≡ xs → y ≡ f (get_or ys at d) → refill (length xs) xs (set ys at y) ≡ modified f at xs
+wrote f d at xs ys y same changed =
+    ap (λ z. refill (length xs) xs (set ys at z)) changed
+    ∙ ap (λ zs. refill (length xs) xs (set zs at (f (get_or zs at d)))) same
+    ∙ ap (refill (length xs) xs) (set_modified f d at xs) ∙ refill_modified f at xs

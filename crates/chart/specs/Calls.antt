@@ -1,15 +1,17 @@
 -- Calls on a chart in order: what each answers, what they leave, and what their answers say. Assumes nothing.
-use Rattle.std.specs.Prelude.{◌≡◌, ℕ, Bool, true, false, List, [], ◌∷◌, Some, Ok, Result}
+use Rattle.std.specs.Prelude.{◌≡◌, ℕ, Bool, true, false, List, [], ◌∷◌, ◌⊎◌, Some, None, Ok, Option, Result}
+use Rattle.std.specs.Borrow.{MutBor}
+use Rattle.std.proofs.Common.{inl, inr}
 use Rattle.chart_model.specs.Task.{Task}
 use Rattle.chart_model.specs.Plain.{Chart, opened, step, step_answer, settled, working_answer, settled_answer}
 use Rattle.chart_model.specs.Stands.{Weighs, NoneLighter}
-use Rattle.chart_model.specs.declared.edge.Edge.TheVariants.{Passive}
 use Rattle.chart.specs.declared.refusal.StepRefusal.{StepRefusal}
 use Rattle.chart.specs.declared.refusal.QuestionRefusal.{QuestionRefusal}
 use Rattle.chart.specs.declared.refusal.SettledRefusal.{SettledRefusal}
 use Rattle.chart.specs.declared.call.Call.{Call}
 use Rattle.chart.specs.declared.call.Call.TheVariants.{Step, Question}
 use Rattle.chart.specs.declared.call.FinalQuestion.{FinalQuestion}
+use Rattle.chart.specs.Phrases.{edge_of}
 use Rattle.chart.specs.Refusals.{step_number, question_number, settled_number, told}
 use Rattle.chart.specs.Saying.{SettledSays}
 use Rattle.chart.specs.View.{room}
@@ -33,7 +35,7 @@ InTurn next becomes c (x ∷ xs) (y ∷ ys) = becomes c x y × InTurn next becom
 -- a question changes nothing
 abbrev pub after_call : Task → Call → Chart → Chart
 after_call t (Step a) c = step t room c
-after_call t (Question x i j a) c = c
+after_call t (Question p a) c = c
 
 abbrev pub after_calls : Task → List Call → Chart → Chart
 after_calls t calls c = after_all (after_call t) calls c
@@ -41,7 +43,7 @@ after_calls t calls c = after_all (after_call t) calls c
 -- the call was made at this chart, and has its answer
 abbrev pub Made : Task → Chart → Call → Call → Type 0
 Made t c (Step a) made = (r : Result ℕ StepRefusal) × (made ≡ Step (Some r)) × (told step_number r ≡ step_answer t room c)
-Made t c (Question x i j a) made = (r : Result ℕ QuestionRefusal) × (made ≡ Question x i j (Some r)) × (told question_number r ≡ working_answer t c x i j)
+Made t c (Question p a) made = (r : Result ℕ QuestionRefusal) × (made ≡ Question p (Some r)) × (told question_number r ≡ working_answer t c p.symbol p.from p.to)
 
 -- the calls were made in order, from this chart on
 abbrev pub AllMade : Task → Chart → List Call → List Call → Type 0
@@ -51,8 +53,8 @@ AllMade t c calls made = InTurn (after_call t) (Made t) c calls made
 abbrev pub Asked : Task → Chart → FinalQuestion → FinalQuestion → Type 0
 Asked t c q made =
     (r : Result ℕ SettledRefusal)
-    × (made ≡ record { symbol = q.symbol; from = q.from; to = q.to; answer = Some r })
-    × (told settled_number r ≡ settled_answer t c q.symbol q.from q.to)
+    × (made ≡ record { phrase = q.phrase; answer = Some r })
+    × (told settled_number r ≡ settled_answer t c q.phrase.symbol q.phrase.from q.phrase.to)
 
 abbrev pub AllAsked : Task → Chart → List FinalQuestion → List FinalQuestion → Type 0
 AllAsked t c questions made = InTurn (λ _ d. d) (Asked t) c questions made
@@ -61,10 +63,11 @@ AllAsked t c questions made = InTurn (λ _ d. d) (Asked t) c questions made
 abbrev pub run_chart : Task → List Call → Bool → Chart
 run_chart t calls settles = elim settles [ true ↦ settled t room (after_calls t calls (opened t room)) | false ↦ after_calls t calls (opened t room) ]
 
--- the questions are asked of a settled chart, and otherwise stay as they are
-abbrev pub Questioned : Task → Bool → Chart → List FinalQuestion → List FinalQuestion → Type 0
-Questioned t true c before after = AllAsked t c before after
-Questioned t false c before after = after ≡ before
+-- so of the questions that are lent, as they were and as they are left, if there are any
+abbrev pub Lent : (List FinalQuestion → List FinalQuestion → Type 0) → Option (MutBor (List FinalQuestion)) → Unit {0} ⊎ ((MutBor (List FinalQuestion) × Unit {0}) ⊎ ⊥) → Type 0
+Lent So None left = Unit {0}
+Lent So (Some before) (inr (inl after)) = So before.now after.0.now
+Lent So (Some before) _ = ⊥
 
 -- WHAT THE ANSWERS SAY OF DERIVATIONS
 
@@ -72,10 +75,10 @@ Questioned t false c before after = after ≡ before
 abbrev pub LightestTold : Task → List Call → Type 0
 LightestTold t [] = Unit {0}
 LightestTold t (Step a ∷ calls) = LightestTold t calls
-LightestTold t (Question x i j a ∷ calls) =
-    ((w : ℕ) → a ≡ Some (Ok w) → Weighs t (Passive x i j) w × NoneLighter t (Passive x i j) w) × LightestTold t calls
+LightestTold t (Question p a ∷ calls) =
+    ((w : ℕ) → a ≡ Some (Ok w) → Weighs t (edge_of p) w × NoneLighter t (edge_of p) w) × LightestTold t calls
 
 -- each answer of a settled chart is true, and exact
 abbrev pub TruthTold : Task → Chart → List FinalQuestion → Type 0
 TruthTold t c [] = Unit {0}
-TruthTold t c (q ∷ qs) = ((r : Result ℕ SettledRefusal) → q.answer ≡ Some r → SettledSays t c q.symbol q.from q.to r) × TruthTold t c qs
+TruthTold t c (q ∷ qs) = ((r : Result ℕ SettledRefusal) → q.answer ≡ Some r → SettledSays t c q.phrase.symbol q.phrase.from q.phrase.to r) × TruthTold t c qs

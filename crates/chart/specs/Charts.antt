@@ -9,9 +9,6 @@ use Rattle.chart.specs.declared.setting.Setting.{Setting}
 use Rattle.chart.specs.declared.table.Table.{Table}
 use Rattle.chart.specs.View.{view}
 
-abbrev pub over : {G L W : Type 0} → G → L → W → Setting G L W
-over g l w = record { grammar = g; lattice = l; weighing = w }
-
 -- what grammar, lattice and weighing mean together
 abbrev pub task_of : {G L W : Type 0} → (G → List Rule) → (L → ℕ) → (L → List Word) → (W → Weights) → Setting G L W → Task
 task_of rules last words weights s =

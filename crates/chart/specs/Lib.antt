@@ -1,8 +1,9 @@
 pub mod View
+pub mod Charts
 pub mod Bringing
 pub mod Refusals
 pub mod Stepping
-pub mod Charts
+pub mod Phrases
 pub mod Saying
 pub mod Calls
 pub mod Reading

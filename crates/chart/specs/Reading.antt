@@ -1,5 +1,7 @@
 -- Nodes written over a caller's list, from a place of it on. Assumes nothing.
-use Rattle.std.specs.Prelude.{◌≡◌, ℕ, zero, suc, ◌+◌, ◌<◌, ◌≤◌, List, [], ◌∷◌, length, Option, MatchOption}
+use Rattle.std.specs.Prelude.{◌≡◌, ℕ, zero, suc, ◌+◌, ◌<◌, ◌≤◌, List, [], ◌∷◌, length, Some, None, Option, MatchOption}
+use Rattle.std.specs.List.{slice_get}
+use Rattle.std.specs.Option.{option_map}
 use Rattle.chart_model.specs.Reading.{named, over}
 use Rattle.chart_model.specs.declared.node.Node.{Node}
 use Rattle.chart_model.specs.declared.place.Place.{Place}
@@ -7,6 +9,9 @@ use Rattle.chart_model.specs.declared.place.Place.{Place}
 -- the node of an edge itself, without those below it; an active edge has none
 abbrev pub own : List Place → Place → List Node
 own ps p = named ps (λ _. []) p.edge p.origin
+
+abbrev pub own_at : List Place → ℕ → List Node
+own_at ps n = elim (slice_get ps n) [ None ↦ [] | Some p ↦ own ps p ]
 
 -- nodes over a list after its first so many, as many as there is room for
 abbrev pub over_from : ℕ → List Node → List Node → List Node
@@ -21,3 +26,7 @@ Filled ns room filled r = MatchOption r (room < filled + length ns) (λ n. (n �
 -- the nodes were written after the first so many
 abbrev pub Wrote : List Node → List Node → List Node → ℕ → Option ℕ → Type 0
 Wrote ns before after filled r = (after ≡ over_from filled ns before) × Filled ns (length before) filled r
+
+-- so many are filled then, unless there was no room
+abbrev pub filled_then : ℕ → Option (Unit {0}) → Option ℕ
+filled_then n r = option_map (λ _. n) r

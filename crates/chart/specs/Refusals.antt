@@ -17,20 +17,18 @@ abbrev pub question_number : QuestionRefusal → ℕ
 question_number Question.NoStretch = 7
 question_number Question.NotFinished = 8
 
+abbrev pub settled_number : SettledRefusal → ℕ
+settled_number Settled.NoStretch = 7
+settled_number Settled.NoDerivation = 9
+settled_number Settled.Full = 10
+
 abbrev pub reading_number : ReadingRefusal → ℕ
-reading_number Reading.NoStretch = 7
-reading_number Reading.NoDerivation = 9
-reading_number Reading.Full = 10
+reading_number (Reading.Unanswered refusal) = settled_number refusal
 reading_number Reading.TooShort = 12
 
 -- a reading is refused as a question is
 abbrev pub as_reading : SettledRefusal → ReadingRefusal
-as_reading Settled.NoStretch = Reading.NoStretch
-as_reading Settled.NoDerivation = Reading.NoDerivation
-as_reading Settled.Full = Reading.Full
-
-abbrev pub settled_number : SettledRefusal → ℕ
-settled_number refusal = reading_number (as_reading refusal)
+as_reading refusal = Reading.Unanswered refusal
 
 -- an answer with the number of its refusal
 abbrev pub told : {E : Type 0} → (E → ℕ) → Result ℕ E → Result ℕ ℕ

@@ -4,14 +4,13 @@ use Rattle.std.specs.Option.{ok_or}
 use Rattle.chart_model.specs.Task.{Task}
 use Rattle.chart_model.specs.Derivation.{Derives, LiesWithin}
 use Rattle.chart_model.specs.Plain.{Chart, settled, is_stretch, carried}
-use Rattle.chart_model.specs.Stands.{Carries, Unfinished, Weighs, NoneLighter, Over, Stands, Settled, after}
+use Rattle.chart_model.specs.Stands.{Carries, Unfinished, Weighs, NoneLighter, Over, after}
 use Rattle.chart_model.specs.declared.edge.Edge.TheVariants.{Passive}
 use Rattle.chart.specs.declared.refusal.QuestionRefusal.{QuestionRefusal}
 use Rattle.chart.specs.declared.refusal.QuestionRefusal.TheVariants as Question
 use Rattle.chart.specs.declared.refusal.SettledRefusal.{SettledRefusal}
 use Rattle.chart.specs.declared.refusal.SettledRefusal.TheVariants as Final
-use Rattle.chart_model.specs.declared.place.Standing.{Standing}
-use Rattle.chart.specs.View.{room, standing_of}
+use Rattle.chart.specs.View.{room}
 
 -- WHERE A CHART COMES FROM
 
@@ -23,14 +22,6 @@ FromOpening t c = (n : ℕ) × (c ≡ after t room n)
 abbrev pub FromSettling : Task → Chart → Type 0
 FromSettling t c = (n : ℕ) × (c ≡ settled t room (after t room n))
 
--- a chart that comes from opening and steps has become another, which does so too and stands
-abbrev pub GoesOn : Task → Chart → Chart → Type 0
-GoesOn t before after = FromOpening t before → FromOpening t after × Stands t after
-
--- it has been settled: it stands, and is full exactly where too many edges have derivations
-abbrev pub ComesToRest : Task → Chart → Chart → Type 0
-ComesToRest t before after = FromOpening t before → FromSettling t after × Stands t after × Settled t room after
-
 -- ANSWERS TO QUESTIONS
 
 abbrev pub Exactly : Type 0 → Type 0 → Type 0
@@ -39,10 +30,6 @@ Exactly A B = (A → B) × (B → A)
 -- the weight of a symbol over a stretch, or one of two refusals: for no stretch of the lattice, and for an edge that is not finished
 abbrev pub asked : {E : Type 0} → E → E → ℕ → Chart → ℕ → ℕ → ℕ → Result ℕ E
 asked outside missing last c x i j = elim (is_stretch last i j) [ true ↦ ok_or (carried (Passive x i j) c.places) missing | false ↦ Err outside ]
-
--- the same, with the edge's place
-abbrev pub located : {E : Type 0} → E → E → ℕ → Chart → ℕ → ℕ → ℕ → Result Standing E
-located outside missing last c x i j = elim (is_stretch last i j) [ true ↦ ok_or (standing_of (Passive x i j) c.places) missing | false ↦ Err outside ]
 
 -- why an edge is not finished in a settled chart, by whether the chart is full
 abbrev pub missing_from : Bool → SettledRefusal

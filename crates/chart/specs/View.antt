@@ -1,11 +1,11 @@
 -- What the places of a chart mean. Assumes nothing.
-use Rattle.std.specs.Prelude.{ℕ, List, [], ◌∷◌, ◌++◌, take, Some, None, Option}
+use Rattle.std.specs.Prelude.{◌≡◌, ℕ, suc, true, List, Some, None, Option}
 use Rattle.std.specs.List.{slice_get}
-use Rattle.chart_model.specs.declared.place.Arrival.{Arrival}
 use Rattle.chart_model.specs.declared.place.Place.{Place}
 use Rattle.chart_model.specs.declared.place.Standing.{Standing}
-use Rattle.chart_model.specs.Plain.{Chart, fresh, lightened, modified, standing, finishing}
+use Rattle.chart_model.specs.Plain.{Chart, standing, finishing}
 use Rattle.chart_model.specs.Standings.{place_of}
+use Rattle.chart_model.specs.Origins.{earlier}
 use Rattle.chart_model.specs.declared.edge.Edge.{Edge}
 use Rattle.chart.specs.declared.places.Places.{Places}
 
@@ -15,15 +15,7 @@ room = 1024
 
 -- the taken places
 abbrev pub view : Places → Chart
-view p = record { places = take p.taken p.slots; full = p.full; finished = p.finished }
-
--- a new edge at the next place
-abbrev pub put : Chart → Arrival → Chart
-put c a = record { places = c.places ++ (fresh a ∷ []); full = c.full; finished = c.finished }
-
--- a lighter weight, and its origin, at a place
-abbrev pub improve : Chart → ℕ → Arrival → Chart
-improve c n a = record { places = modified (lightened a) n c.places; full = c.full; finished = c.finished }
+view p = record { places = p.slots.items; full = p.full; finished = p.finished }
 
 -- the finished edge at a place
 abbrev pub standing_at : List Place → ℕ → Option Standing
@@ -37,3 +29,7 @@ standing_of e ps = elim (place_of e ps) [ None ↦ None | Some n ↦ standing_at
 abbrev pub finishing_next : Chart → Option Standing → Chart
 finishing_next c None = c
 finishing_next c (Some s) = finishing c s.at
+
+-- an origin may name the edge at a place, which has been finished
+abbrev pub Named : Chart → ℕ → Type 0
+Named c n = earlier c.places (suc c.finished) n ≡ true

@@ -1,25 +1,23 @@
 // Calls on a chart as values, each with its answer.
+use crate::phrase::Phrase;
 use crate::refusal::{QuestionRefusal, SettledRefusal, StepRefusal};
 
 // A call on a working chart, with its answer once it has been made.
-#[derive(Clone, Copy)]
+// A call is a value and no closure, since the laws of a run speak of every list of calls.
+#[derive(Clone, Copy, PartialEq, Eq, Debug)]
 pub enum Call {
     Step {
         answer: Option<Result<u16, StepRefusal>>,
     },
     Question {
-        symbol: u8,
-        from: u8,
-        to: u8,
+        phrase: Phrase,
         answer: Option<Result<u64, QuestionRefusal>>,
     },
 }
 
 // A question to a settled chart, with its answer once it has been asked.
-#[derive(Clone, Copy)]
+#[derive(Clone, Copy, PartialEq, Eq, Debug)]
 pub struct FinalQuestion {
-    pub symbol: u8,
-    pub from: u8,
-    pub to: u8,
+    pub phrase: Phrase,
     pub answer: Option<Result<u64, SettledRefusal>>,
 }

@@ -1,16 +1,18 @@
 // Charts: opened over a grammar, a lattice and a weighing, stepped, settled and questioned.
 #![tactic(auto)]
 
-mod asking;
+mod bringing;
 pub mod call;
+mod listing;
 mod meeting;
 mod opening;
 pub mod outcome;
+pub mod phrase;
 mod places;
 mod reading;
 pub mod refusal;
 pub mod run;
-mod setting;
+pub mod setting;
 pub mod settled;
 mod stepping;
 mod table;

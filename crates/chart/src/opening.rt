@@ -2,8 +2,10 @@
 ghost use Rattle.std.specs.Prelude.{◌≡◌, suc};
 ghost use Rattle.chart_model.specs.Plain.{arrive_all, gathered, word_brings, empty_brings, nodes_bring};
 ghost use Rattle.chart.specs.Bringing.{brought_by};
-ghost use Rattle.chart.specs.View.{room, view};
+ghost use Rattle.chart.specs.Charts.{held};
+ghost use Rattle.chart.specs.View.{room};
 
+use crate::setting::Setting;
 use crate::table::Table;
 use chart_model::edge::Edge;
 use chart_model::origin::Origin;
@@ -12,84 +14,69 @@ use grammar::Grammar;
 use lattice::Lattice;
 use weighing::Weighing;
 
-// What a word brings.
-fn word<L: Lattice, W: Weighing>(lattice: &L, weighing: &W, n: u8) -> Option<Arrival>
-    ensures { result ≡ brought_by (word_brings (W.weights weighing.now)) (L.words lattice.now) n }
-{
-    let Some(word) = lattice.word(n as usize) else {
-        return None;
-    };
-    let edge = Edge::Passive {
-        symbol: word.symbol,
-        from: word.from,
-        to: word.to,
-    };
-    Some(Arrival {
-        edge,
-        weight: weighing.weigh(word.mark),
-        origin: Origin::Word(n),
-    })
-}
-
-// What a rule without right symbols brings at a node.
-fn empty<G: Grammar, W: Weighing>(grammar: &G, weighing: &W, node: u8, rule: u8) -> Option<Arrival>
-    ensures { result ≡ brought_by (empty_brings (W.weights weighing.now) node) (G.rules grammar.now) rule }
-{
-    let Some(0) = grammar.length(rule as usize) else {
-        return None;
-    };
-    let Some(symbol) = grammar.left(rule as usize) else {
-        return None;
-    };
-    let Some(mark) = grammar.mark(rule as usize) else {
-        return None;
-    };
-    let edge = Edge::Passive {
-        symbol,
-        from: node,
-        to: node,
-    };
-    Some(Arrival {
-        edge,
-        weight: weighing.weigh(mark),
-        origin: Origin::Empty(rule),
-    })
-}
-
-// The words arrive, in order.
-pub(crate) fn word_arrivals<L: Lattice, W: Weighing>(table: &mut Table, lattice: &L, weighing: &W)
-    ensures { view table.new.places ≡ arrive_all room (W.weights weighing.now).lighter (view table.old.places) (gathered (word_brings (W.weights weighing.now)) 0 (L.words lattice.now)) }
-{
-    for n in 0..lattice.len() {
-        let Some(arrival) = word(lattice, weighing, n as u8) else {
-            continue;
+impl<G: Grammar, L: Lattice, W: Weighing> Setting<G, L, W> {
+    // What a word brings.
+    fn word(&self, n: u8) -> Option<Arrival>
+        ensures { result ≡ brought_by (word_brings (W.weights self.now.weighing)) (L.words self.now.lattice) n }
+    {
+        let word = self.lattice.word(usize::from(n))?;
+        let edge = Edge::Passive {
+            symbol: word.symbol,
+            from: word.from,
+            to: word.to,
         };
-        table.arrive(weighing, arrival);
+        Some(Arrival {
+            edge,
+            weight: self.weighing.weigh(word.mark),
+            origin: Origin::Word(n),
+        })
     }
-}
 
-// The rules without right symbols arrive at a node, in order.
-fn empty_arrivals<G: Grammar, W: Weighing>(table: &mut Table, grammar: &G, weighing: &W, node: u8)
-    ensures { view table.new.places ≡ arrive_all room (W.weights weighing.now).lighter (view table.old.places) (gathered (empty_brings (W.weights weighing.now) node) 0 (G.rules grammar.now)) }
-{
-    for rule in 0..grammar.len() {
-        let Some(arrival) = empty(grammar, weighing, node, rule as u8) else {
-            continue;
+    // What a rule without right symbols brings at a node.
+    fn empty(&self, node: u8, rule: u8) -> Option<Arrival>
+        ensures { result ≡ brought_by (empty_brings (W.weights self.now.weighing) node) (G.rules self.now.grammar) rule }
+    {
+        if self.grammar.length(usize::from(rule))? != 0 {
+            return None;
+        }
+        let symbol = self.grammar.left(usize::from(rule))?;
+        let mark = self.grammar.mark(usize::from(rule))?;
+        let edge = Edge::Passive {
+            symbol,
+            from: node,
+            to: node,
         };
-        table.arrive(weighing, arrival);
+        Some(Arrival {
+            edge,
+            weight: self.weighing.weigh(mark),
+            origin: Origin::Empty(rule),
+        })
     }
-}
 
-// The rules without right symbols arrive at every node up to the last.
-pub(crate) fn node_arrivals<G: Grammar, W: Weighing>(
-    table: &mut Table,
-    grammar: &G,
-    weighing: &W,
-    last: u8,
-)
-    ensures { view table.new.places ≡ arrive_all room (W.weights weighing.now).lighter (view table.old.places) (nodes_bring (W.weights weighing.now) (G.rules grammar.now) 0 (suc last)) }
-{
-    for node in 0..=last {
-        empty_arrivals(table, grammar, weighing, node);
+    // The words arrive, in order. Each number of a word or a rule fits 8 bits, so its cast is plainer than a test that cannot fail.
+    pub(crate) fn word_arrivals(&self, table: &mut Table)
+        ensures { held table.new ≡ arrive_all room (W.weights self.now.weighing).lighter (held table.old) (gathered (word_brings (W.weights self.now.weighing)) 0 (L.words self.now.lattice)) }
+    {
+        self.bring_each(table, self.lattice.len(), |_, n| self.word(n as u8));
+    }
+
+    // The rules without right symbols arrive at a node, in order.
+    fn empty_arrivals(&self, table: &mut Table, node: u8)
+        ensures { held table.new ≡ arrive_all room (W.weights self.now.weighing).lighter (held table.old) (gathered (empty_brings (W.weights self.now.weighing) node) 0 (G.rules self.now.grammar)) }
+    {
+        self.bring_each(
+            table,
+            self.grammar.len(),
+            |_, rule| self.empty(node, rule as u8),
+        );
+    }
+
+    // They arrive at every node up to the last.
+    pub(crate) fn node_arrivals(&self, table: &mut Table)
+        ensures { held table.new ≡ arrive_all room (W.weights self.now.weighing).lighter (held table.old) (nodes_bring (W.weights self.now.weighing) (G.rules self.now.grammar) 0 (suc (L.last self.now.lattice))) }
+    {
+        for node in 0..=self.lattice.last_node() {
+            self.empty_arrivals(table, node);
+        }
     }
 }

@@ -1,54 +1,24 @@
 // The places of a chart, each with an edge.
-ghost use Rattle.std.specs.Prelude.{◌≡◌, ◌+◌, ◌<◌, ◌≤◌, length, IfSome, Some, nat_lt};
-ghost use Rattle.std.specs.List.{slice_get};
-ghost use Rattle.chart_model.specs.Plain.{blank, same_edge, is_open, arrive as arrive_plain, finishing};
-ghost use Rattle.chart_model.specs.Standings.{place_of, seen, lighter_standing, lightest_standing};
-ghost use Rattle.chart.specs.View.{room, view, put, improve};
+ghost use Rattle.std.specs.Prelude.{◌≡◌, ◌<◌, length, IfSome, Some};
+ghost use Rattle.std.specs.List.{slice_get, position};
+ghost use Rattle.chart_model.specs.Plain.{blank, same_edge, improved, arrive as arrive_plain, finishing};
+ghost use Rattle.chart_model.specs.Standings.{lighter_standing, lightest_standing};
+ghost use Rattle.chart.specs.View.{room, view};
 
+use arrayvec::ArrayVec;
 use chart_model::edge::Edge;
-use chart_model::origin::Origin;
-use chart_model::place::{Arrival, Place, Standing, State};
+use chart_model::place::{Arrival, Place, Standing};
 use weighing::Weighing;
 
 // How many edges a chart has room for.
 pub(crate) const ROOM: usize = 1024;
 
-// The first `taken` slots are in use.
+// The taken places in order, whether a new edge has found none, and how many edges are finished.
 #[derive(Drop)]
 pub(crate) struct Places {
-    pub(crate) slots: [Place; ROOM],
-    pub(crate) taken: usize,
+    pub(crate) slots: ArrayVec<Place, ROOM>,
     pub(crate) full: bool,
     pub(crate) finished: u16,
-}
-
-// Whether two edges are the same.
-fn is_same(a: Edge, b: Edge) -> bool
-    ensures { result ≡ same_edge a b }
-{
-    a == b
-}
-
-// Whether an edge may still get lighter.
-fn is_open(state: State) -> bool
-    ensures { result ≡ is_open state }
-{
-    match state {
-        State::Open => true,
-        State::Finished(_) => false,
-    }
-}
-
-// The edge at a place.
-pub(crate) fn seen(at: usize, place: Place) -> Standing
-    requires { at < room }
-    ensures { result ≡ seen at place }
-{
-    Standing {
-        at: at as u16,
-        edge: place.edge,
-        weight: place.weight,
-    }
 }
 
 // An open edge, or one after it if that is lighter.
@@ -57,30 +27,27 @@ fn lighter_of<W: Weighing>(weighing: &W, edge: Standing, later: Option<Standing>
 {
     match later {
         Some(found) if weighing.is_lighter(found.weight, edge.weight) => found,
-        Some(_) => edge,
-        None => edge,
+        _ => edge,
+    }
+}
+
+// A lighter weight, and its origin, replace those of an open edge.
+fn improve<W: Weighing>(weighing: &W, place: &mut Place, arrival: Arrival)
+    ensures { place.new ≡ improved (W.weights weighing.now).lighter arrival place.old }
+{
+    if place.finished.is_none() && weighing.is_lighter(arrival.weight, place.weight) {
+        place.weight = arrival.weight;
+        place.origin = arrival.origin;
     }
 }
 
 impl Places {
     // Places without edges.
     pub(crate) fn none() -> Self
-        ensures view { view result ≡ blank }
-        ensures taken { result.taken ≡ 0 }
+        ensures { view result ≡ blank }
     {
-        let unused = Place {
-            edge: Edge::Passive {
-                symbol: 0,
-                from: 0,
-                to: 0,
-            },
-            weight: 0,
-            origin: Origin::Word(0),
-            state: State::Open,
-        };
         Places {
-            slots: [unused; ROOM],
-            taken: 0,
+            slots: ArrayVec::new(),
             full: false,
             finished: 0,
         }
@@ -88,106 +55,54 @@ impl Places {
 
     // What stands at a place.
     pub(crate) fn at(&self, n: usize) -> Option<Place>
-        requires { self.now.taken ≤ room }
-        ensures { result ≡ slice_get (view self.now).places n }
+        ensures place { result ≡ slice_get (view self.now).places n }
+        ensures within { IfSome result (λ _. n < room) }
     {
-        if n < self.taken {
-            Some(self.slots[n])
-        } else {
-            None
-        }
+        self.slots.get(n).copied()
     }
 
     // The place of an edge.
     pub(crate) fn find(&self, edge: Edge) -> Option<usize>
-        requires { self.now.taken ≤ room }
-        ensures place { result ≡ place_of edge (view self.now).places }
-        ensures within { IfSome result (λ i. i < self.now.taken) }
+        ensures place { result ≡ position (λ p. same_edge p.edge edge) (view self.now).places }
+        ensures within { IfSome result (λ i. i < length (view self.now).places) }
     {
-        for i in 0..self.taken {
-            if is_same(self.slots[i].edge, edge) {
-                return Some(i);
-            }
-        }
-        None
+        self.slots.iter().position(|place| place.edge == edge)
     }
 
     // The lightest open edge, at the lowest place among equals.
     pub(crate) fn lightest<W: Weighing>(&self, weighing: &W) -> Option<Standing>
-        requires { self.now.taken ≤ room }
         ensures { result ≡ lightest_standing (W.weights weighing.now).lighter (view self.now).places }
     {
         let mut best = None;
-        for i in (0..self.taken).rev() {
-            let place = self.slots[i];
-            if is_open(place.state) {
-                best = Some(lighter_of(weighing, seen(i, place), best));
+        for (at, place) in self.slots.iter().enumerate().rev() {
+            if place.finished.is_none() {
+                best = Some(lighter_of(weighing, place.seen(at as u16), best));
             }
         }
         best
     }
 
-    // Whether a slot is free.
-    fn has_room(&self) -> bool
-        ensures room { result ≡ nat_lt self.now.taken room }
-        ensures slots { length self.now.slots ≡ room }
-    {
-        let slots: &[Place] = &self.slots;
-        self.taken < slots.len()
-    }
-
-    // Takes the next slot for a new edge.
-    fn put(&mut self, arrival: Arrival)
-        requires { self.old.taken < room }
-        ensures view { view self.new ≡ put (view self.old) arrival }
-        ensures taken { self.new.taken ≡ self.old.taken + 1 }
-    {
-        self.slots[self.taken] = Place {
-            edge: arrival.edge,
-            weight: arrival.weight,
-            origin: arrival.origin,
-            state: State::Open,
-        };
-        self.taken += 1;
-    }
-
-    // Gives the edge at a place a lighter weight, and its origin.
-    fn improve(&mut self, at: usize, arrival: Arrival)
-        requires { (at < self.old.taken) × (self.old.taken ≤ room) }
-        ensures view { view self.new ≡ improve (view self.old) at arrival }
-        ensures taken { self.new.taken ≡ self.old.taken }
-    {
-        self.slots[at].weight = arrival.weight;
-        self.slots[at].origin = arrival.origin;
-    }
-
     // Finishes the edge at a place.
     pub(crate) fn finish(&mut self, at: usize)
-        requires { (at < self.old.taken) × ((self.old.taken ≤ room) × (self.old.finished < room)) }
-        ensures view { view self.new ≡ finishing (view self.old) at }
-        ensures taken { self.new.taken ≡ self.old.taken }
+        requires within { at < length (view self.old).places }
+        requires numbers { self.old.finished < room }
+        ensures { view self.new ≡ finishing (view self.old) at }
     {
         self.finished += 1;
-        self.slots[at].state = State::Finished(self.finished);
+        self.slots[at].finished = Some(self.finished);
     }
 
     // Brings a weight and an origin to an edge.
     pub(crate) fn arrive<W: Weighing>(&mut self, weighing: &W, arrival: Arrival)
-        requires { self.old.taken ≤ room }
-        ensures view { view self.new ≡ arrive_plain room (W.weights weighing.now).lighter (view self.old) arrival }
-        ensures taken { self.new.taken ≤ room }
+        ensures { view self.new ≡ arrive_plain room (W.weights weighing.now).lighter (view self.old) arrival }
     {
         if self.full {
             return;
         }
         match self.find(arrival.edge) {
-            Some(at) if !is_open(self.slots[at].state) => {}
-            Some(at) if weighing.is_lighter(arrival.weight, self.slots[at].weight) => self.improve(
-                at, arrival,
-            ),
-            Some(_) => {}
-            None if self.has_room() => self.put(arrival),
-            None => self.full = true,
+            Some(at) => improve(weighing, &mut self.slots[at], arrival),
+            None if self.slots.is_full() => self.full = true,
+            None => self.slots.push(Place::from(arrival)),
         }
     }
 }

@@ -1,123 +1,97 @@
 // Runs: a new chart, a list of calls on it, and what they leave.
-ghost use Rattle.std.specs.Prelude.{◌≡◌, true};
+ghost use Rattle.std.specs.Prelude.{◌≡◌, [], ◌∷◌, IsSome, is_some};
 ghost use Rattle.chart_model.specs.Plain.{opened};
 ghost use Rattle.chart_model.specs.Stands.{Stands, Settled};
-ghost use Rattle.chart.specs.Calls.{after_call, after_calls, Made, AllMade, Asked, AllAsked, run_chart, Questioned, LightestTold, TruthTold};
-ghost use Rattle.chart.specs.Charts.{over, task_of, held};
+ghost use Rattle.chart.specs.Calls.{after_call, after_calls, Made, AllMade, AllAsked, run_chart, Lent, LightestTold, TruthTold};
+ghost use Rattle.chart.specs.Charts.{task_of, held};
 ghost use Rattle.chart.specs.View.{room};
 
 use crate::call::{Call, FinalQuestion};
 use crate::outcome::Outcome;
+use crate::setting::Setting;
 use crate::settled::SettledChart;
 use crate::working::WorkingChart;
 use grammar::Grammar;
 use lattice::Lattice;
 use weighing::Weighing;
 
-// Makes a call, and gives it back with its answer.
-fn make<G: Grammar, L: Lattice, W: Weighing>(chart: &mut WorkingChart<G, L, W>, call: Call) -> Call
-    ensures made { Made (task_of G.rules L.last L.words W.weights chart.old.setting) (held chart.old.table) call result }
-    ensures left { held chart.new.table ≡ after_call (task_of G.rules L.last L.words W.weights chart.old.setting) call (held chart.old.table) }
+// Makes a call, and notes its answer.
+fn make<G: Grammar, L: Lattice, W: Weighing>(chart: &mut WorkingChart<G, L, W>, call: &mut Call)
+    ensures made { Made (task_of G.rules L.last L.words W.weights chart.old.setting) (held chart.old.table) call.old call.new }
+    ensures left { held chart.new.table ≡ after_call (task_of G.rules L.last L.words W.weights chart.old.setting) call.old (held chart.old.table) }
+    ensures lightest { LightestTold (task_of G.rules L.last L.words W.weights chart.old.setting) (call.new ∷ []) }
     ensures setting { chart.new.setting ≡ chart.old.setting }
 {
     match call {
-        Call::Step { .. } => Call::Step {
-            answer: Some(chart.step()),
-        },
-        Call::Question {
-            symbol,
-            from,
-            to,
-            ..
-        } => Call::Question {
-            symbol,
-            from,
-            to,
-            answer: Some(chart.question(symbol, from, to)),
-        },
+        Call::Step { answer } => *answer = Some(chart.step()),
+        Call::Question { phrase, answer } => *answer = Some(chart.question(*phrase)),
     }
 }
 
-// Makes calls in order, and gives each its answer.
+// Makes calls in order.
 fn make_all<G: Grammar, L: Lattice, W: Weighing>(
     chart: &mut WorkingChart<G, L, W>,
     calls: &mut [Call],
 )
     ensures made { AllMade (task_of G.rules L.last L.words W.weights chart.old.setting) (held chart.old.table) calls.old calls.new }
     ensures left { held chart.new.table ≡ after_calls (task_of G.rules L.last L.words W.weights chart.old.setting) calls.old (held chart.old.table) }
+    ensures lightest { LightestTold (task_of G.rules L.last L.words W.weights chart.old.setting) calls.new }
     ensures setting { chart.new.setting ≡ chart.old.setting }
 {
-    for i in 0..calls.len() {
-        calls[i] = make(chart, calls[i]);
+    for call in calls.iter_mut() {
+        make(chart, call);
     }
 }
 
-// Asks a question, and gives it back with its answer.
-fn put<G: Grammar, L: Lattice, W: Weighing>(
-    chart: &SettledChart<G, L, W>,
-    question: FinalQuestion,
-) -> FinalQuestion
-    ensures { Asked (task_of G.rules L.last L.words W.weights chart.now.setting) (held chart.now.table) question result }
-{
-    let answer = chart.question(question.symbol, question.from, question.to);
-    FinalQuestion {
-        answer: Some(answer),
-        ..question
-    }
-}
-
-// Asks questions in order, and gives each its answer.
-fn put_all<G: Grammar, L: Lattice, W: Weighing>(
+// Asks questions in order, and notes their answers.
+// Not one function with the loop over calls, since a call changes the chart and a question does not.
+fn ask_all<G: Grammar, L: Lattice, W: Weighing>(
     chart: &SettledChart<G, L, W>,
     questions: &mut [FinalQuestion],
 )
-    ensures { AllAsked (task_of G.rules L.last L.words W.weights chart.now.setting) (held chart.now.table) questions.old questions.new }
+    ensures asked { AllAsked (task_of G.rules L.last L.words W.weights chart.now.setting) (held chart.now.table) questions.old questions.new }
+    ensures truth { TruthTold (task_of G.rules L.last L.words W.weights chart.now.setting) (held chart.now.table) questions.new }
 {
-    for i in 0..questions.len() {
-        questions[i] = put(chart, questions[i]);
+    for question in questions.iter_mut() {
+        question.answer = Some(chart.question(question.phrase));
     }
 }
 
 // Opens a chart, and makes calls on it.
 fn begin<G: Grammar, L: Lattice, W: Weighing>(
-    grammar: G,
-    lattice: L,
-    weighing: W,
+    setting: Setting<G, L, W>,
     calls: &mut [Call],
 ) -> WorkingChart<G, L, W>
-    ensures made { AllMade (task_of G.rules L.last L.words W.weights (over grammar lattice weighing)) (opened (task_of G.rules L.last L.words W.weights (over grammar lattice weighing)) room) calls.old calls.new }
-    ensures left { held result.table ≡ after_calls (task_of G.rules L.last L.words W.weights (over grammar lattice weighing)) calls.old (opened (task_of G.rules L.last L.words W.weights (over grammar lattice weighing)) room) }
-    ensures setting { result.setting ≡ over grammar lattice weighing }
+    ensures made { AllMade (task_of G.rules L.last L.words W.weights setting) (opened (task_of G.rules L.last L.words W.weights setting) room) calls.old calls.new }
+    ensures left { held result.table ≡ after_calls (task_of G.rules L.last L.words W.weights setting) calls.old (opened (task_of G.rules L.last L.words W.weights setting) room) }
+    ensures lightest { LightestTold (task_of G.rules L.last L.words W.weights setting) calls.new }
+    ensures stands { Stands (task_of G.rules L.last L.words W.weights setting) (held result.table) }
+    ensures setting { result.setting ≡ setting }
 {
-    let mut chart = WorkingChart::open(grammar, lattice, weighing);
+    let mut chart = WorkingChart::open(setting);
     make_all(&mut chart, calls);
     chart
 }
 
-// Opens a chart, makes calls on it, settles it or not, and then asks questions of it if it is settled.
+// Opens a chart, makes calls on it, and then, if there are questions for it, settles it and asks them.
 pub fn run<G: Grammar + Drop, L: Lattice + Drop, W: Weighing + Drop>(
-    grammar: G,
-    lattice: L,
-    weighing: W,
+    setting: Setting<G, L, W>,
     calls: &mut [Call],
-    settles: bool,
-    questions: &mut [FinalQuestion],
+    questions: Option<&mut [FinalQuestion]>,
 ) -> Outcome
-    ensures stands { Stands (task_of G.rules L.last L.words W.weights (over grammar lattice weighing)) (held result.table) }
-    ensures settled { settles ≡ true → Settled (task_of G.rules L.last L.words W.weights (over grammar lattice weighing)) room (held result.table) }
-    ensures lightest { LightestTold (task_of G.rules L.last L.words W.weights (over grammar lattice weighing)) calls.new }
-    ensures truth { settles ≡ true → TruthTold (task_of G.rules L.last L.words W.weights (over grammar lattice weighing)) (held result.table) questions.new }
-    ensures called { held result.table ≡ run_chart (task_of G.rules L.last L.words W.weights (over grammar lattice weighing)) calls.old settles }
-    ensures made { AllMade (task_of G.rules L.last L.words W.weights (over grammar lattice weighing)) (opened (task_of G.rules L.last L.words W.weights (over grammar lattice weighing)) room) calls.old calls.new }
-    ensures asked { Questioned (task_of G.rules L.last L.words W.weights (over grammar lattice weighing)) settles (held result.table) questions.old questions.new }
+    ensures stands { Stands (task_of G.rules L.last L.words W.weights setting) (held result.table) }
+    ensures settled { IsSome questions.entry → Settled (task_of G.rules L.last L.words W.weights setting) room (held result.table) }
+    ensures lightest { LightestTold (task_of G.rules L.last L.words W.weights setting) calls.new }
+    ensures truth { Lent (λ before after. TruthTold (task_of G.rules L.last L.words W.weights setting) (held result.table) after) questions.entry questions.exit }
+    ensures called { held result.table ≡ run_chart (task_of G.rules L.last L.words W.weights setting) calls.old (is_some questions.entry) }
+    ensures made { AllMade (task_of G.rules L.last L.words W.weights setting) (opened (task_of G.rules L.last L.words W.weights setting) room) calls.old calls.new }
+    ensures asked { Lent (AllAsked (task_of G.rules L.last L.words W.weights setting) (held result.table)) questions.entry questions.exit }
 {
-    let chart = begin(grammar, lattice, weighing, calls);
-    if !settles {
-        let WorkingChart { table, .. } = chart;
-        return Outcome { table };
-    }
+    let chart = begin(setting, calls);
+    let Some(questions) = questions else {
+        return Outcome { table: chart.table };
+    };
     let chart = chart.settle();
-    put_all(&chart, questions);
-    let SettledChart { table, .. } = chart;
-    Outcome { table }
+    ask_all(&chart, questions);
+    Outcome { table: chart.table }
 }

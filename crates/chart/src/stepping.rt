@@ -1,69 +1,23 @@
 // Steps of a table: an edge is finished, and what follows from it arrives.
-ghost use Rattle.std.specs.Prelude.{◌≡◌, suc, true};
+ghost use Rattle.std.specs.Prelude.{◌≡◌};
 ghost use Rattle.chart_model.specs.Plain.{arrive_all, gathered, rule_brings, place_brings, arrivals, step, step_answer, settled};
-ghost use Rattle.chart_model.specs.Origins.{earlier};
-ghost use Rattle.chart.specs.View.{room, view};
+ghost use Rattle.chart.specs.Bringing.{brought_by, NamesFinished};
+ghost use Rattle.chart.specs.View.{room, Named};
+ghost use Rattle.chart.specs.Charts.{task_of, held};
 ghost use Rattle.chart.specs.Refusals.{step_number, told};
-ghost use Rattle.chart.specs.Stepping.{wordless, count_unless_full};
+ghost use Rattle.chart.specs.Stepping.{count_unless_full};
 
-use crate::meeting::{begin, meet};
 use crate::refusal::StepRefusal;
+use crate::setting::Setting;
 use crate::table::Table;
-use chart_model::place::Standing;
+use chart_model::place::{Arrival, Standing};
 use grammar::Grammar;
+use lattice::Lattice;
 use weighing::Weighing;
-
-// The rules that begin with the finished edge arrive, in order.
-fn rule_arrivals<G: Grammar, W: Weighing>(
-    table: &mut Table,
-    grammar: &G,
-    weighing: &W,
-    finished: Standing,
-)
-    requires { earlier (view table.old.places).places (suc table.old.places.finished) finished.at ≡ true }
-    ensures { view table.new.places ≡ arrive_all room (W.weights weighing.now).lighter (view table.old.places) (gathered (rule_brings (W.weights weighing.now) finished) 0 (G.rules grammar.now)) }
-{
-    for rule in 0..grammar.len() {
-        let Some(arrival) = begin(grammar, weighing, rule as u8, finished) else {
-            continue;
-        };
-        table.arrive(weighing, arrival);
-    }
-}
-
-// What the finished edge brings with those finished before it arrives, in the order of places.
-fn place_arrivals<G: Grammar, W: Weighing>(
-    table: &mut Table,
-    grammar: &G,
-    weighing: &W,
-    finished: Standing,
-)
-    requires { earlier (view table.old.places).places (suc table.old.places.finished) finished.at ≡ true }
-    ensures { view table.new.places ≡ arrive_all room (W.weights weighing.now).lighter (view table.old.places) (gathered (place_brings (G.rules grammar.now) (W.weights weighing.now) finished) 0 (view table.old.places).places) }
-{
-    for at in 0..table.len() {
-        let Some(other) = table.finished_at(at) else {
-            continue;
-        };
-        let Some(arrival) = meet(grammar, weighing, other, finished) else {
-            continue;
-        };
-        table.arrive(weighing, arrival);
-    }
-}
-
-// All that follows from the finished edge arrives.
-fn spread<G: Grammar, W: Weighing>(table: &mut Table, grammar: &G, weighing: &W, finished: Standing)
-    requires { earlier (view table.old.places).places (suc table.old.places.finished) finished.at ≡ true }
-    ensures { view table.new.places ≡ arrive_all room (W.weights weighing.now).lighter (view table.old.places) (arrivals (wordless (G.rules grammar.now) (W.weights weighing.now)) finished (view table.old.places).places) }
-{
-    rule_arrivals(table, grammar, weighing, finished);
-    place_arrivals(table, grammar, weighing, finished);
-}
 
 // How many edges are finished; refused at a full chart.
 fn count_unless_full(table: &Table) -> Result<u16, StepRefusal>
-    ensures { result ≡ count_unless_full (view table.now.places) }
+    ensures { result ≡ count_unless_full (held table.now) }
 {
     if table.is_full() {
         return Err(StepRefusal::Full);
@@ -71,26 +25,47 @@ fn count_unless_full(table: &Table) -> Result<u16, StepRefusal>
     Ok(table.count())
 }
 
-// Finishes the lightest open edge, and tells how many edges are finished then.
-pub(crate) fn advance<G: Grammar, W: Weighing>(
-    table: &mut Table,
-    grammar: &G,
-    weighing: &W,
-) -> Result<u16, StepRefusal>
-    ensures view { view table.new.places ≡ step (wordless (G.rules grammar.now) (W.weights weighing.now)) room (view table.old.places) }
-    ensures answer { told step_number result ≡ step_answer (wordless (G.rules grammar.now) (W.weights weighing.now)) room (view table.old.places) }
-{
-    count_unless_full(table)?;
-    let Some(finished) = table.finish_lightest(weighing) else {
-        return Err(StepRefusal::NothingOpen);
-    };
-    spread(table, grammar, weighing, finished);
-    count_unless_full(table)
-}
+impl<G: Grammar, L: Lattice, W: Weighing> Setting<G, L, W> {
+    // What the edge at a place brings with the one that has just been finished, if it is finished too.
+    fn meet_at(&self, table: &Table, at: usize, finished: Standing) -> Option<Arrival>
+        ensures brings { result ≡ brought_by (place_brings (G.rules self.now.grammar) (W.weights self.now.weighing) finished) (held table.now).places at }
+        ensures named { Named (held table.now) finished.at → NamesFinished (held table.now) result }
+    {
+        let other = table.finished_at(at)?;
+        self.meet(other, finished)
+    }
 
-// Takes steps until one is refused.
-pub(crate) fn advance_all<G: Grammar, W: Weighing>(table: &mut Table, grammar: &G, weighing: &W)
-    ensures { view table.new.places ≡ settled (wordless (G.rules grammar.now) (W.weights weighing.now)) room (view table.old.places) }
-{
-    while let Ok(_) = advance(table, grammar, weighing) {}
+    // All that follows from the finished edge arrives: by the rules in order, and then by the places in order.
+    fn spread(&self, table: &mut Table, finished: Standing)
+        requires { Named (held table.old) finished.at }
+        ensures { held table.new ≡ arrive_all room (W.weights self.now.weighing).lighter (held table.old) (arrivals (task_of G.rules L.last L.words W.weights self.now) finished (held table.old).places) }
+    {
+        self.bring_each(
+            table,
+            self.grammar.len(),
+            |_, rule| self.begin(rule as u8, finished),
+        );
+        let places = table.len();
+        self.bring_each(table, places, |table, at| self.meet_at(table, at, finished));
+    }
+
+    // Finishes the lightest open edge, and tells how many edges are finished then.
+    pub(crate) fn advance(&self, table: &mut Table) -> Result<u16, StepRefusal>
+        ensures view { held table.new ≡ step (task_of G.rules L.last L.words W.weights self.now) room (held table.old) }
+        ensures answer { told step_number result ≡ step_answer (task_of G.rules L.last L.words W.weights self.now) room (held table.old) }
+    {
+        count_unless_full(table)?;
+        let finished = table
+            .finish_lightest(&self.weighing)
+            .ok_or(StepRefusal::NothingOpen)?;
+        self.spread(table, finished);
+        count_unless_full(table)
+    }
+
+    // Takes steps until one is refused.
+    pub(crate) fn advance_all(&self, table: &mut Table)
+        ensures { held table.new ≡ settled (task_of G.rules L.last L.words W.weights self.now) room (held table.old) }
+    {
+        while self.advance(table).is_ok() {}
+    }
 }

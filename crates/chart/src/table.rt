@@ -3,19 +3,21 @@ ghost use Rattle.std.specs.Prelude.{◌≡◌, suc, ◌≤◌, true, length, IfS
 ghost use Rattle.std.specs.List.{slice_get};
 ghost use Rattle.chart_model.specs.Plain.{blank, done, arrive as arrive_plain, carried as carried_plain};
 ghost use Rattle.chart_model.specs.Standings.{lightest_standing};
-ghost use Rattle.chart_model.specs.Origins.{orderly, earlier, names_earlier};
-ghost use Rattle.chart.specs.View.{room, view, standing_at, standing_of, finishing_next};
+ghost use Rattle.chart_model.specs.Origins.{orderly, names_earlier};
+ghost use Rattle.chart.specs.View.{room, view, standing_at, standing_of, finishing_next, Named};
 
-use crate::places::{Places, seen};
+use crate::places::Places;
 use chart_model::edge::Edge;
-use chart_model::place::{Arrival, Place, Standing, State};
+use chart_model::place::{Arrival, Place, Standing};
 use weighing::Weighing;
 
 // An origin names only finished edges, with lower numbers than its own edge has or will get.
+// Ghost fields and no model, since the proofs of callers read these facts of a table that no call has opened.
+// One of them is that no more places are taken than there is room for: a vector says so only where its methods are called.
 #[derive(Drop)]
 pub(crate) struct Table {
     places: Places,
-    ghost room: { places.taken ≤ room },
+    ghost room: { length (view places).places ≤ room },
     ghost counted: { done (view places).places ≡ places.finished },
     ghost orderly: { orderly (view places) ≡ true },
 }
@@ -45,28 +47,24 @@ impl Table {
 
     // How many places are taken.
     pub(crate) fn len(&self) -> usize
-        ensures { result ≡ self.now.places.taken }
+        ensures { result ≡ length (view self.now.places).places }
     {
-        self.places.taken
+        self.places.slots.len()
     }
 
     // The finished edge at a place.
     pub(crate) fn finished_at(&self, at: usize) -> Option<Standing>
         ensures stands { result ≡ standing_at (view self.now.places).places at }
-        ensures earlier { IfSome result (λ s. earlier (view self.now.places).places (suc self.now.places.finished) s.at ≡ true) }
+        ensures earlier { IfSome result (λ s. Named (view self.now.places) s.at) }
     {
-        let Some(place) = self.places.at(at) else {
-            return None;
-        };
-        match place.state {
-            State::Open => None,
-            State::Finished(_) => Some(seen(at, place)),
-        }
+        let place = self.places.at(at)?;
+        place.finished?;
+        Some(place.seen(at as u16))
     }
 
     // What stands at the place of a finished edge.
     pub(crate) fn place(&self, at: u16) -> Place
-        requires { earlier (view self.now.places).places (suc self.now.places.finished) at ≡ true }
+        requires { Named (view self.now.places) at }
         ensures { slice_get (view self.now.places).places at ≡ Some result }
     {
         self.places.slots[at as usize]
@@ -75,22 +73,16 @@ impl Table {
     // An edge with its place, if it is finished.
     pub(crate) fn standing(&self, edge: Edge) -> Option<Standing>
         ensures stands { result ≡ standing_of edge (view self.now.places).places }
-        ensures earlier { IfSome result (λ s. earlier (view self.now.places).places (suc self.now.places.finished) s.at ≡ true) }
+        ensures earlier { IfSome result (λ s. Named (view self.now.places) s.at) }
     {
-        let Some(at) = self.places.find(edge) else {
-            return None;
-        };
-        self.finished_at(at)
+        self.finished_at(self.places.find(edge)?)
     }
 
     // The weight of a finished edge.
     pub(crate) fn carried(&self, edge: Edge) -> Option<u64>
         ensures { result ≡ carried_plain edge (view self.now.places).places }
     {
-        let Some(finished) = self.standing(edge) else {
-            return None;
-        };
-        Some(finished.weight)
+        Some(self.standing(edge)?.weight)
     }
 
     // Brings a weight and an origin to an edge.
@@ -105,11 +97,9 @@ impl Table {
     pub(crate) fn finish_lightest<W: Weighing>(&mut self, weighing: &W) -> Option<Standing>
         ensures lightest { result ≡ lightest_standing (W.weights weighing.now).lighter (view self.old.places).places }
         ensures view { view self.new.places ≡ finishing_next (view self.old.places) result }
-        ensures earlier { IfSome result (λ s. earlier (view self.new.places).places (suc self.new.places.finished) s.at ≡ true) }
+        ensures earlier { IfSome result (λ s. Named (view self.new.places) s.at) }
     {
-        let Some(lightest) = self.places.lightest(weighing) else {
-            return None;
-        };
+        let lightest = self.places.lightest(weighing)?;
         self.places.finish(lightest.at as usize);
         Some(lightest)
     }

@@ -1,14 +1,21 @@
-use Rattle.std.proofs.Common.{◌∙◌}
-use Rattle.chart.specs.Charts.{over, task_of, held}
-use Rattle.chart.proofs.Runs.{called_by}
+use Rattle.std.proofs.Common.{◌∙◌, subst}
+use Rattle.chart_model.specs.Stands.{Stands}
+use Rattle.chart.specs.Calls.{AllMade}
+use Rattle.chart.specs.Charts.{task_of, held}
+use Rattle.chart.proofs.Reaching.{sound_of, opening_stands}
 use Rattle.chart.proofs.run.begin.Goals as goal
 
-pub returns : goal.returns
-returns g c =
-    let s = over c.args.grammar c.args.lattice c.args.weighing in
+pub returns-clause-made : goal.returns-clause-made
+returns-clause-made g c =
+    let task = task_of g.G.Grammar.rules g.L.Lattice.last g.L.Lattice.words g.W.Weighing.weights in
     let start = c.open-chart.result in
-    let (made, left) =
-    called_by (task_of g.G.Grammar.rules g.L.Lattice.last g.L.Lattice.words g.W.Weighing.weights) s start.setting c.open-chart.ensures.setting
-    (held start.table) (held c.make_all.new.chart.table) c.args.calls.now c.make_all.new.calls
-    c.open-chart.ensures.opened c.make_all.ensures.made c.make_all.ensures.left in
-    record { made = made; left = left; setting = c.make_all.ensures.setting ∙ c.open-chart.ensures.setting }
+    let calls = c.args.calls.now in
+    let made = c.make_all.new.calls in
+    subst (λ b. AllMade (task c.args.setting) b calls made) c.open-chart.ensures.opened (subst (λ x. AllMade (task x) (held start.table) calls made) c.open-chart.ensures.setting c.make_all.ensures.made)
+
+pub returns-clause-stands : goal.returns-clause-stands
+returns-clause-stands g c =
+    let task = task_of g.G.Grammar.rules g.L.Lattice.last g.L.Lattice.words g.W.Weighing.weights in
+    let chart = c.make_all.new.chart in
+    let sound = sound_of g.G.Grammar.limits g.L.Lattice.limits g.met.W.Weighing.lawful chart.setting in
+    subst (λ x. Stands (task x) (held chart.table)) (c.make_all.ensures.setting ∙ c.open-chart.ensures.setting) (opening_stands sound (held chart.table) chart.from_opening)

@@ -1,8 +1,8 @@
-use Rattle.std.proofs.Common.{◌≡◌, drop}
-use Rattle.chart_model.specs.Standings.{standing_from}
+use Rattle.std.specs.Slice.Iter.{iter_rest}
 use Rattle.chart.specs.View.{view}
+use Rattle.chart.proofs.Choosing.{Chosen}
 use Rattle.chart.proofs.places.Places.lightest.Given as goal
 
--- the lightest of those from i on
-abbrev pub invariant-loop-i : goal.invariant-loop-i
-invariant-loop-i g l = l.best ≡ standing_from (g.W.Weighing.weights l.weighing).lighter l.i (drop l.i (view l.self).places)
+-- the lightest of those that the search has seen, from the last place down
+abbrev pub invariant-loop-at : goal.invariant-loop-at
+invariant-loop-at g l = Chosen (g.W.Weighing.weights l.weighing).lighter (view l.self).places (iter_rest l.at-iterator.iter.iter) l.at-iterator.iter.count l.best

@@ -1,18 +1,18 @@
-use Rattle.std.proofs.Common.{suc, arith}
-use Rattle.chart.proofs.Keeping.{earlier_within}
-use Rattle.chart.proofs.Slots.{nth_taken}
+use Rattle.std.proofs.Common.{rules}
+use Rattle.chart.specs.View.{view}
+use Rattle.chart.proofs.Keeping.{named_within}
+use Rattle.chart.proofs.Finding.{nth_seen}
 use Rattle.chart.proofs.table.Table.place.Goals as goal
 
-pub bounds-self-at : goal.bounds-self-at
-bounds-self-at c =
+pub bounds-deref-at : goal.bounds-deref-at
+bounds-deref-at c =
     let p = c.args.self.now.places in
-    let within = earlier_within p (suc p.finished) c.args.at c.requires in
-    let room = c.args.self.now.room in
-    omega arith
+    let within = named_within (view p) c.args.at c.requires in
+    let same = c.deref.ensures in
+    search rules
 
 pub returns : goal.returns
 returns c =
     let p = c.args.self.now.places in
-    let within = earlier_within p (suc p.finished) c.args.at c.requires in
-    let room = c.args.self.now.room in
-    nth_taken p.slots p.taken c.args.at _ (omega arith) within
+    let within = named_within (view p) c.args.at c.requires in
+    nth_seen p.slots.items _ c.args.at _ c.deref.ensures.0 within

@@ -1,0 +1,16 @@
+use Rattle.std.proofs.Common.{[], ◌∷◌, refl, arith}
+use Rattle.chart.proofs.Overlay.{wrote_one, wrote_past}
+use Rattle.chart.proofs.listing.Listing.push.Goals as goal
+
+pub returns-then-self : goal.returns-then-self
+returns-then-self c =
+    let listing = c.args.self.now in
+    let full = c.if-self.true in
+    wrote_past listing.nodes.now listing.filled (c.args.node ∷ []) c.args.node refl (omega arith)
+
+pub returns : goal.returns
+returns c =
+    let listing = c.args.self.now in
+    let within = listing.within in
+    let room = c.if-self.false in
+    wrote_one listing.nodes.now listing.filled (c.args.node ∷ []) c.args.node refl (omega arith)

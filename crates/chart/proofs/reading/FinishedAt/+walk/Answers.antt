@@ -1,0 +1,64 @@
+use Rattle.chart.specs.Reading.{filled_then}
+use Rattle.chart.proofs.Walking.{first_named, next_named, walks_none, walks_first, walks_active_none, walks_next}
+use Rattle.chart.proofs.reading.FinishedAt.+walk.Goals as goal
+
+pub returns-in_err-write_own : goal.returns-in_err-write_own
+returns-in_err-write_own t c =
+    let before = c.args.listing.now in
+    let own = c.write_own.new.listing in
+    rw c.from_residual.ensures (walks_none c.args.self.now c.place-place.result c.place-place.ensures before.nodes.now own.nodes.now before.filled c.in_err-write_own.ensures)
+
+pub invariant_of-walk : goal.invariant_of-walk
+invariant_of-walk t c =
+    let k = first_named c.args.self.now c.place-place.result c.place-place.ensures _ c.in-First.child c.in-First.is in
+    record { finished = k.shut }
+
+pub walk-requires : goal.walk-requires
+walk-requires t c =
+    let k = first_named c.args.self.now c.place-place.result c.place-place.ensures _ c.in-First.child c.in-First.is in
+    (rw c.decreases at k.sooner, tt)
+
+pub returns-in-First : goal.returns-in-First
+returns-in-First t c =
+    let before = c.args.listing.now in
+    let own = c.write_own.new.listing in
+    let after = c.walk.new.listing in
+    walks_first c.args.self.now c.place-place.result c.place-place.ensures before.nodes.now own.nodes.now before.filled own.filled c.in_ok-write_own.ensures
+    after.nodes.now _ c.in-First.child (filled_then after.filled c.walk.result) c.in-First.is c.walk.ensures
+
+pub invariant_of-walk-in-Next : goal.invariant_of-walk-in-Next
+invariant_of-walk-in-Next t c =
+    let k = next_named c.args.self.now c.place-place.result c.place-place.ensures c.in-Next.active c.in-Next.child c.in-Next.is in
+    record { finished = k.0.shut }
+
+pub walk-requires-in-Next : goal.walk-requires-in-Next
+walk-requires-in-Next t c =
+    let k = (next_named c.args.self.now c.place-place.result c.place-place.ensures c.in-Next.active c.in-Next.child c.in-Next.is).0 in
+    (rw c.decreases at k.sooner, tt)
+
+pub returns-in_err-walk-in-Next : goal.returns-in_err-walk-in-Next
+returns-in_err-walk-in-Next t c =
+    let before = c.args.listing.now in
+    let own = c.write_own.new.listing in
+    rw c.from_residual-in_err-walk-in-Next.ensures (walks_active_none c.args.self.now c.place-place.result c.place-place.ensures before.nodes.now own.nodes.now before.filled own.filled c.in_ok-write_own.ensures
+    c.walk-in-Next.new.listing.nodes.now c.in-Next.active c.in-Next.child c.in-Next.is c.in_err-walk-in-Next.ensures)
+
+pub invariant_of-walk-in-Next-2 : goal.invariant_of-walk-in-Next-2
+invariant_of-walk-in-Next-2 t c =
+    let k = next_named c.args.self.now c.place-place.result c.place-place.ensures c.in-Next.active c.in-Next.child c.in-Next.is in
+    record { finished = k.1.shut }
+
+pub walk-requires-in-Next-2 : goal.walk-requires-in-Next-2
+walk-requires-in-Next-2 t c =
+    let k = (next_named c.args.self.now c.place-place.result c.place-place.ensures c.in-Next.active c.in-Next.child c.in-Next.is).1 in
+    (rw c.decreases at k.sooner, tt)
+
+pub returns-in_ok-walk-in-Next : goal.returns-in_ok-walk-in-Next
+returns-in_ok-walk-in-Next t c =
+    let before = c.args.listing.now in
+    let own = c.write_own.new.listing in
+    let middle = c.walk-in-Next.new.listing in
+    let after = c.walk-in-Next-2.new.listing in
+    walks_next c.args.self.now c.place-place.result c.place-place.ensures before.nodes.now own.nodes.now before.filled own.filled c.in_ok-write_own.ensures
+    after.nodes.now c.in-Next.active c.in-Next.child c.in-Next.is middle.nodes.now middle.filled (filled_then after.filled c.walk-in-Next-2.result)
+    c.in_ok-walk-in-Next.ensures c.walk-in-Next-2.ensures

@@ -1,0 +1,36 @@
+// What numbered things bring arrives at a table, one after the other.
+ghost use Rattle.std.specs.Prelude.{◌≡◌, ◌<◌, ℕ, Option};
+ghost use Rattle.std.specs.Borrow.{Bor};
+ghost use Rattle.chart_model.specs.Plain.{arrive_all};
+ghost use Rattle.chart_model.specs.declared.place.Arrival.{Arrival};
+ghost use Rattle.chart.specs.declared.table.Table.{Table};
+ghost use Rattle.chart.specs.Bringing.{brought, AnyBrought, NamesFinished};
+ghost use Rattle.chart.specs.Charts.{held};
+ghost use Rattle.chart.specs.View.{room};
+
+use crate::setting::Setting;
+use crate::table::Table;
+use chart_model::place::Arrival;
+use grammar::Grammar;
+use lattice::Lattice;
+use weighing::Weighing;
+
+impl<G: Grammar, L: Lattice, W: Weighing> Setting<G, L, W> {
+    // What each number below a count brings arrives, in order. It may be read off the table, as that is by then.
+    pub(crate) fn bring_each<F: Fn(&Table, usize) -> Option<Arrival>>(
+        &self,
+        table: &mut Table,
+        count: usize,
+        brings: F,
+    )
+        requires callable { (t : Bor Table) (n : ℕ) → n < count → F.pre brings t n }
+        requires named { AnyBrought (F.post brings) (W.weights self.now.weighing).lighter (held table.old) count (λ c n r. NamesFinished c r) }
+        ensures { (f : ℕ → Option Arrival) → AnyBrought (F.post brings) (W.weights self.now.weighing).lighter (held table.old) count (λ c n r. r ≡ f n) → held table.new ≡ arrive_all room (W.weights self.now.weighing).lighter (held table.old) (brought f 0 count) }
+    {
+        for n in 0..count {
+            if let Some(arrival) = brings(table, n) {
+                table.arrive(&self.weighing, arrival);
+            }
+        }
+    }
+}

@@ -1,0 +1,27 @@
+// Nodes over a caller's list, from its front on.
+ghost use Rattle.std.specs.Prelude.{◌≡◌, ◌≤◌, length, [], ◌∷◌};
+ghost use Rattle.chart.specs.Reading.{Wrote, filled_then};
+
+use chart_model::node::Node;
+
+// The nodes so far, and those of the caller's after them.
+#[derive(Drop)]
+pub(crate) struct Listing<'a> {
+    pub(crate) nodes: &'a mut [Node],
+    pub(crate) filled: usize,
+    ghost within: { filled ≤ length nodes.now },
+}
+
+impl<'a> Listing<'a> {
+    // One node more; none where there is no room. It writes by index, since a write through `get_mut` was not proved.
+    pub(crate) fn push(&mut self, node: Node) -> Option<()>
+        ensures { Wrote (node ∷ []) self.old.nodes.now self.new.nodes.now self.old.filled (filled_then self.new.filled result) }
+    {
+        if self.filled == self.nodes.len() {
+            return None;
+        }
+        self.nodes[self.filled] = node;
+        self.filled += 1;
+        Some(())
+    }
+}
