@@ -1,10 +1,10 @@
--- Words gathered line by line over a list. Assumes nothing.
-use Rattle.std.proofs.Common.{◌≡◌, ℕ, suc, ◌+◌, ◌-◌, ◌<◌, ◌≤◌, List, [], ◌∷◌, ◌++◌, length, take, drop, set, Some, None, Ok, Err, Option, Result, sym, refl, ap, ◌∙◌, ⊎_elim, append_assoc, append-nil, arith, length-set, take-append-drop}
+-- Words gathered line by line. Assumes nothing.
+use Rattle.std.proofs.Common.{◌≡◌, ℕ, suc, true, false, eqb, ◌+◌, ◌-◌, ◌<◌, ◌≤◌, List, [], ◌∷◌, ◌++◌, length, Some, None, Ok, Err, Option, Result, sym, refl, ap, ◌∙◌, ⊎_elim, append_assoc, append-nil, arith, length-append}
 use Rattle.std.specs.Result.{result_map_both}
-use Rattle.std.proofs.lemmas.List.{take_more_set, length-take-le, drop-set-lt, drop-drop, nil_from_length}
+use Rattle.std.proofs.lemmas.List.{nil_from_length}
+use Rattle.std.proofs.lemmas.Bool.{eqb-false, eqb-true}
 use Rattle.lattice.specs.declared.word.Word.{Word}
 use Rattle.line_format.specs.Lines.{line_feed, lines, line_word, lines_words, text_words, most_lines}
-use Rattle.line_format.specs.Reading.{over}
 use Rattle.line_format.proofs.Pieces.{find_parted}
 use Rattle.line_format.proofs.TextLines.{first_line, only_line}
 
@@ -33,68 +33,57 @@ no_room text some =
     (λ (before, rest, p). ap (lines_words 0) (first_line p))
     (find_parted line_feed text)
 
--- so many words of the text stand in the list, and the lines that are left say the rest
-pub record Gathered (text rest : List ℕ) (count : ℕ) (words before : List Word) : Type 0 where
-  pub room : count ≤ most_lines
-  pub long : length words ≡ most_lines
-  pub said : after (take count words) (lines_words (most_lines - count) (lines rest)) ≡ text_words text
-  pub kept : drop count words ≡ drop count before
+-- the words so far, and the lines that are left, say what the text says
+pub record Gathered (text rest : List ℕ) (words : List Word) : Type 0 where
+  pub room : length words ≤ most_lines
+  pub said : after words (lines_words (most_lines - length words) (lines rest)) ≡ text_words text
 
-pub gathered_none : (text : List ℕ) (before : List Word) → length before ≡ most_lines → Gathered text text 0 before before
-gathered_none text before long = record { room = omega arith; long = long; said = after_none (text_words text); kept = refl }
+pub gathered_none : (text : List ℕ) → Gathered text text []
+gathered_none text = record { room = omega arith; said = after_none (text_words text) }
 
-module _ {text rest : List ℕ} {count : ℕ} {words before : List Word} (g : Gathered text rest count words before) where
-  room_more : (count ≡ most_lines → ⊥) → most_lines - count ≡ suc (most_lines - (count + 1))
-  room_more below = omega (arith, g.room)
+module _ {text rest : List ℕ} {words : List Word} (g : Gathered text rest words) where
+  fewer : false ≡ eqb (length words) most_lines → length words < most_lines
+  fewer below = let other = eqb-false (length words) most_lines (sym below) in omega (arith, g.room)
+
+  room_more : false ≡ eqb (length words) most_lines → most_lines - length words ≡ suc (most_lines - (length words + 1))
+  room_more below = omega (arith, fewer below)
+
+  -- what the text says, by what the first of the lines that are left writes
+  said_by : {line : List ℕ} {others : List (List ℕ)} (found : Option Word) → false ≡ eqb (length words) most_lines → lines rest ≡ line ∷ others → line_word line ≡ found →
+      after words (elim found as (λ _. Result (List Word) ℕ) [ None ↦ Err 13 | Some w ↦ after (w ∷ []) (lines_words (most_lines - (length words + 1)) others) ]) ≡ text_words text
+  said_by {line} {others} found below first e =
+      let left : ℕ = most_lines - (length words + 1) in
+      ap (after words) (sym (ap (λ n. lines_words n (lines rest)) (room_more below) ∙ ap (lines_words (suc left)) first ∙ line_by left line others found e))
+      ∙ g.said
 
   -- one line more
-  pub gathered_more : {line later : List ℕ} {w : Word} → (count ≡ most_lines → ⊥) → lines rest ≡ line ∷ lines later → line_word line ≡ Some w →
-      Gathered text later (count + 1) (set words count w) before
+  pub gathered_more : {line later : List ℕ} {w : Word} → false ≡ eqb (length words) most_lines → lines rest ≡ line ∷ lines later → line_word line ≡ Some w →
+      Gathered text later (words ++ (w ∷ []))
   gathered_more {line} {later} {w} below first found =
-      let left : ℕ = most_lines - (count + 1) in
-      let within : count < length words = omega (arith, g.room, g.long) in
-      let past : count < count + 1 = omega arith in
+      let longer : length (words ++ (w ∷ [])) ≡ length words + 1 = length-append words (w ∷ []) in
       record {
-        room = omega (arith, g.room);
-        long = length-set words count w ∙ g.long;
+        room = omega (arith, fewer below, longer);
         said =
-            ap (λ ws. after ws (lines_words left (lines later))) (take_more_set words count w within)
-            ∙ after_push (take count words) w (lines_words left (lines later))
-            ∙ ap (after (take count words)) (sym (ap (λ n. lines_words n (lines rest)) (room_more below) ∙ ap (lines_words (suc left)) first ∙ line_by left line (lines later) (Some w) found))
-            ∙ g.said;
-        kept =
-            drop-set-lt (count + 1) words count w past
-            ∙ sym (drop-drop 1 count words)
-            ∙ ap (drop 1) g.kept
-            ∙ drop-drop 1 count before;
+            ap (λ n. after (words ++ (w ∷ [])) (lines_words (most_lines - n) (lines later))) longer
+            ∙ after_push words w (lines_words (most_lines - (length words + 1)) (lines later))
+            ∙ said_by (Some w) below first found;
       }
 
   -- a line that is not of the form
-  pub gathered_bad : {line : List ℕ} {others : List (List ℕ)} → (count ≡ most_lines → ⊥) → lines rest ≡ line ∷ others → line_word line ≡ None → text_words text ≡ Err 13
-  gathered_bad {line} {others} below first found =
-      let left : ℕ = most_lines - (count + 1) in
-      sym g.said
-      ∙ ap (after (take count words)) (ap (λ n. lines_words n (lines rest)) (room_more below) ∙ ap (lines_words (suc left)) first ∙ line_by left line others None found)
+  pub gathered_bad : {line : List ℕ} {others : List (List ℕ)} → false ≡ eqb (length words) most_lines → lines rest ≡ line ∷ others → line_word line ≡ None → Err 13 ≡ text_words text
+  gathered_bad below first found = said_by None below first found
 
   -- a line that there is no room for
-  pub gathered_full : count ≡ most_lines → 0 < length rest → text_words text ≡ Err 3
+  pub gathered_full : true ≡ eqb (length words) most_lines → false ≡ eqb (length rest) 0 → Err 3 ≡ text_words text
   gathered_full full some =
-      let none : most_lines - count ≡ 0 = omega arith in
-      sym g.said ∙ ap (after (take count words)) (ap (λ n. lines_words n (lines rest)) none ∙ no_room rest some)
+      let whole : length words ≡ most_lines = eqb-true (length words) most_lines (sym full) in
+      let none : most_lines - length words ≡ 0 = omega arith in
+      let more = eqb-false (length rest) 0 (sym some) in
+      sym (ap (after words) (ap (λ n. lines_words n (lines rest)) none ∙ no_room rest (omega arith))) ∙ g.said
 
   -- no line is left
-  pub gathered_all : length rest ≤ 0 → text_words text ≡ Ok (take count words)
+  pub gathered_all : true ≡ eqb (length rest) 0 → Ok words ≡ text_words text
   gathered_all none =
-      let empty : length rest ≡ 0 = omega arith in
-      sym g.said
-      ∙ ap (λ r. after (take count words) (lines_words (most_lines - count) (lines r))) (nil_from_length rest empty)
-      ∙ ap Ok (append-nil (take count words))
-
-  pub gathered_count : length (take count words) ≡ count
-  gathered_count = length-take-le count words (omega (arith, g.room, g.long))
-
-  pub gathered_list : length rest ≤ 0 → words ≡ over (text_words text) before
-  gathered_list none =
-      sym (take-append-drop count words)
-      ∙ ap (λ back. take count words ++ back) (g.kept ∙ ap (λ n. drop n before) (sym gathered_count))
-      ∙ sym (ap (λ r. over r before) (gathered_all none))
+      let empty : length rest ≡ 0 = eqb-true (length rest) 0 (sym none) in
+      sym (ap (λ r. after words (lines_words (most_lines - length words) (lines r))) (nil_from_length rest empty) ∙ ap Ok (append-nil words))
+      ∙ g.said

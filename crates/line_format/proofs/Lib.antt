@@ -2,9 +2,9 @@ pub mod Answering
 pub mod Deciding
 pub mod Fields
 pub mod Gathering
+pub mod Inputs
 pub mod Numbers
 pub mod Pieces
-pub mod Splitting
 pub mod TextLines
 pub mod WrittenLines
 pub mod WrittenTexts

@@ -26,6 +26,15 @@ no_number text no_fit = go (fits text) refl
     go true e = absurd (no_fit e)
     go false e = refl
 
+-- what `ok` gives tells the result
+pub ok_some : {T E : Type 0} (r : Result T E) (x : T) → Some x ≡ result_ok r → r ≡ Ok x
+ok_some (Ok y) x e = cc
+ok_some (Err d) x e = cc
+
+pub ok_none : {T E : Type 0} (r : Result T E) → None ≡ result_ok r → (d : E) × (r ≡ Err d)
+ok_none (Ok y) e = absurd cc
+ok_none (Err d) e = (d, refl)
+
 -- digits are text
 pub no_text : (text : List ℕ) → (IsUtf8 text → ⊥) → None ≡ then_some (fits text) (digits_value 10 text)
 no_text text not_utf8 =
@@ -37,7 +46,7 @@ plus_starts_none (c ∷ []) s plus = true≢false (sym s ∙ ap is_ascii_digit p
 plus_starts_none (c ∷ d ∷ cs) s plus = true≢false (sym (and_parts (is_ascii_digit c) _ s).0 ∙ ap is_ascii_digit plus)
 
 some_start : (text : List ℕ) → starts text ≡ true → 0 < length text
-some_start [] s = absurd (true≢false (sym s))
+some_start [] s = absurd cc
 some_start (c ∷ cs) s = omega arith
 
 pub parsed : {E : Type 0} (text : List ℕ) (r : Result ℕ E) → starts text ≡ true → ParsesUnsigned 16 10 text r → result_ok r ≡ then_some (fits text) (digits_value 10 text)

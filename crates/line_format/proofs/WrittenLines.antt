@@ -35,7 +35,7 @@ starts_from (c ∷ d ∷ ds) digits some alone =
     (ap not (ne_eqb c 48 (λ zero. let one : suc (suc (length ds)) ≡ 1 = alone zero in omega arith)))
 
 alone_from : (ds : List ℕ) → starts ds ≡ true → (0 < length ds) × (get_or ds 0 0 ≡ 48 → length ds ≡ 1)
-alone_from [] s = absurd (true≢false (sym s))
+alone_from [] s = absurd cc
 alone_from (c ∷ []) s = (omega arith, λ zero. refl)
 alone_from (c ∷ d ∷ ds) s =
     (omega arith, λ zero. absurd (true≢false (sym (and_parts (is_ascii_digit c) (not (eqb c 48)) s).1 ∙ ap not (eq-eqb c 48 zero))))
@@ -59,7 +59,7 @@ number_read : (most n : ℕ) (ds : List ℕ) → most < 2 ^ 64 → number most d
 number_read most n ds small = go (starts ds && (all_ascii_digits ds && leb (digits_value 10 ds) most)) refl
   where
     go : (b : Bool) → (starts ds && (all_ascii_digits ds && leb (digits_value 10 ds) most)) ≡ b → then_some b (digits_value 10 ds) ≡ Some n → (ds ≡ decimal n) × (n ≤ most)
-    go false e f = let z : ◌≡◌ {A = ℕ} 0 1 = cc in absurd (omega arith)
+    go false e f = absurd cc
     go true e f =
         let p = and_parts (starts ds) (all_ascii_digits ds && leb (digits_value 10 ds) most) e in
         let q = and_parts (all_ascii_digits ds) (leb (digits_value 10 ds) most) p.1 in
@@ -89,10 +89,10 @@ line_written w r =
 
 word_of_some : (x y z u : Option ℕ) (w : Word) → word_of x y z u ≡ Some w →
     (x ≡ Some w.from) × (y ≡ Some w.to) × (z ≡ Some w.symbol) × (u ≡ Some w.mark)
-word_of_some None y z u w e = absurd (let z : ◌≡◌ {A = ℕ} 0 1 = cc in omega arith)
-word_of_some (Some a) None z u w e = absurd (let z : ◌≡◌ {A = ℕ} 0 1 = cc in omega arith)
-word_of_some (Some a) (Some b) None u w e = absurd (let z : ◌≡◌ {A = ℕ} 0 1 = cc in omega arith)
-word_of_some (Some a) (Some b) (Some c) None w e = absurd (let z : ◌≡◌ {A = ℕ} 0 1 = cc in omega arith)
+word_of_some None y z u w e = absurd cc
+word_of_some (Some a) None z u w e = absurd cc
+word_of_some (Some a) (Some b) None u w e = absurd cc
+word_of_some (Some a) (Some b) (Some c) None w e = absurd cc
 word_of_some (Some a) (Some b) (Some c) (Some d) w e =
     let same : record { from = a; to = b; symbol = c; mark = d } ≡ w = cc in
     (ap (λ (v : Word). Some v.from) same, ap (λ (v : Word). Some v.to) same, ap (λ (v : Word). Some v.symbol) same, ap (λ (v : Word). Some v.mark) same)
@@ -101,7 +101,7 @@ pub line_read : (line : List ℕ) (w : Word) → line_word line ≡ Some w → (
 line_read line w e = ⊎_elim (λ none. few (only_field line none) refl) second (find_parted space line)
   where
     few : {pieces : List (List ℕ)} → fields line ≡ pieces → fields_word pieces ≡ None → (line ≡ written w) × InRange w
-    few found none = absurd (let z : ◌≡◌ {A = ℕ} 0 1 = cc (ap fields_word found) in omega arith)
+    few found none = absurd (cc (ap fields_word found))
 
     whole : {a rest b other c mark : List ℕ} → Parted space line a rest → Parted space rest b other → Parted space other c mark →
         word_of (number 255 a) (number 255 b) (number 255 c) (number 65535 mark) ≡ Some w → (line ≡ written w) × InRange w

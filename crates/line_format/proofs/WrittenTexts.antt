@@ -50,13 +50,13 @@ one_more room l ls w vs ws found same rest =
 
 words_lines : (room : ℕ) (ls : List (List ℕ)) (ws : List Word) → lines_words room ls ≡ Ok ws → LinesOf room ls ws
 words_lines room [] ws e = let none : [] ≡ ws = cc in subst (LinesOf room []) none (refl, tt, omega arith)
-words_lines zero (l ∷ ls) ws e = absurd (let z : ◌≡◌ {A = ℕ} 0 1 = cc in omega arith)
+words_lines zero (l ∷ ls) ws e = absurd cc
 words_lines (suc room) (l ∷ ls) ws e = go (line_word l) refl (lines_words room ls) refl (words_lines room ls)
   where
     go : (found : Option Word) → line_word l ≡ found → (r : Result (List Word) ℕ) → lines_words room ls ≡ r →
         ((vs : List Word) → lines_words room ls ≡ Ok vs → LinesOf room ls vs) → LinesOf (suc room) (l ∷ ls) ws
-    go None f r g rest = absurd (let z : ◌≡◌ {A = ℕ} 0 1 = cc (line_by room l ls None f) in omega arith)
-    go (Some w) f (Err n) g rest = absurd (let z : ◌≡◌ {A = ℕ} 0 1 = cc (line_by room l ls (Some w) f ∙ ap (result_map_both (λ vs. w ∷ vs) (λ number. number)) g) in omega arith)
+    go None f r g rest = absurd (cc (line_by room l ls None f))
+    go (Some w) f (Err n) g rest = absurd (cc (line_by room l ls (Some w) f ∙ ap (result_map_both (λ vs. w ∷ vs) (λ number. number)) g))
     go (Some w) f (Ok vs) g rest =
         let same : w ∷ vs ≡ ws = cc (line_by room l ls (Some w) f ∙ ap (result_map_both (λ vs. w ∷ vs) (λ number. number)) g) in
         one_more room l ls w vs ws f same (rest vs g)

@@ -38,3 +38,7 @@ longest_line = 18
 
 abbrev pub enough : ℕ
 enough = most_lines * longest_line + 1
+
+-- what is said of a text with enough bytes is said of it with whatever follows
+abbrev pub Decided : (List ℕ → Type 0) → List ℕ → Type 0
+Decided Says text = (more : List ℕ) → enough ≤ length text → Says (text ++ more)

@@ -1,23 +1,20 @@
 // Why a text is not read.
-ghost use Rattle.std.specs.Prelude.{◌≡◌};
 ghost use Rattle.line_format.specs.Faults.{form_number};
+
+use records::numbered::Numbered;
 
 #[derive(Clone, Copy, PartialEq, Eq, Debug)]
 pub enum FormFault {
     // There is a line after as many as there is room for.
-    TooManyLines,
+    TooManyLines = 3,
     // A line is not of the form.
-    NotOfTheForm,
+    NotOfTheForm = 13,
 }
 
-impl FormFault {
-    // The number of the refusal.
-    pub fn number(self) -> u8
-        ensures { result ≡ form_number self }
-    {
-        match self {
-            FormFault::TooManyLines => 3,
-            FormFault::NotOfTheForm => 13,
-        }
+impl Numbered for FormFault {
+    ghost number = { form_number };
+
+    fn number(self) -> u8 {
+        self as u8
     }
 }

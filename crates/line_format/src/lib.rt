@@ -2,6 +2,7 @@
 #![tactic(auto)]
 
 pub mod fault;
+pub mod input;
 mod line;
 mod number;
 mod split;

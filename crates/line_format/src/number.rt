@@ -11,11 +11,7 @@ use std::str::from_utf8;
 fn starts(text: &[u8]) -> bool
     ensures { result ≡ starts text.now }
 {
-    match text {
-        [b'0'] => true,
-        [b'1'..=b'9', ..] => true,
-        _ => false,
-    }
+    matches!(text, [b'0'] | [b'1'..=b'9', ..])
 }
 
 // The number that digits write, if it has 16 bits.
@@ -23,10 +19,7 @@ fn digits(text: &[u8]) -> Option<u16>
     requires { starts text.now ≡ true }
     ensures { result ≡ then_some (all_ascii_digits text.now && nat_le (digits_value 10 text.now) 65535) (digits_value 10 text.now) }
 {
-    let Ok(digits) = from_utf8(text) else {
-        return None;
-    };
-    digits.parse::<u16>().ok()
+    from_utf8(text).ok()?.parse().ok()
 }
 
 // The number that a text writes, if it has 16 bits.

@@ -6,10 +6,6 @@ ghost use Rattle.line_format.specs.Split.{Without, Parted};
 pub(crate) fn split_once(text: &[u8], separator: u8) -> Option<(&[u8], &[u8])>
     ensures { MatchOption result (Without separator text.now) (λ p. Parted separator text.now p.0.now p.1.now) }
 {
-    for (at, byte) in text.iter().enumerate() {
-        if *byte == separator {
-            return Some((&text[0..at], &text[at + 1..]));
-        }
-    }
-    None
+    let at = text.iter().position(|byte| *byte == separator)?;
+    Some((&text[..at], &text[at + 1..]))
 }

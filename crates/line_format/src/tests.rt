@@ -3,23 +3,17 @@ use super::*;
 use crate::fault::*;
 use crate::text::read_words;
 use lattice::word::Word;
+use std::array::from_fn;
 
-const NO_WORD: Word = Word {
-    from: 0,
-    to: 0,
-    symbol: 0,
-    mark: 0,
-};
-
-fn read(text: &str) -> Result<usize, FormFault> {
-    let mut words = [NO_WORD; 128];
-    read_words(text.as_bytes(), &mut words)
+// How many words a text has.
+fn read(text: &[u8]) -> Result<usize, FormFault> {
+    Ok(read_words(text)?.len())
 }
 
 #[test]
 fn words_and_numbers(rt: HostRuntime) {
-    let mut words = [NO_WORD; 128];
-    assert_eq!(rt; read_words(b"0 1 17 10\n255 0 10 65535", &mut words), Ok(2));
+    let words = read_words(b"0 1 17 10\n255 0 10 65535").unwrap();
+    assert_eq!(rt; words.len(), 2);
     let second = Word {
         from: 255,
         to: 0,
@@ -27,10 +21,10 @@ fn words_and_numbers(rt: HostRuntime) {
         mark: 65535,
     };
     assert_eq!(rt; words[1], second);
-    assert_eq!(rt; words[2], NO_WORD);
-    assert_eq!(rt; read(""), Ok(0));
-    assert_eq!(rt; read("0 1 2 3"), Ok(1));
-    assert_eq!(rt; read("0 1 2 3\n"), Ok(1));
+    assert_eq!(rt; words.get(2).copied(), None);
+    assert_eq!(rt; read(b""), Ok(0));
+    assert_eq!(rt; read(b"0 1 2 3"), Ok(1));
+    assert_eq!(rt; read(b"0 1 2 3\n"), Ok(1));
 }
 
 #[test]
@@ -56,39 +50,26 @@ fn not_of_the_form(rt: HostRuntime) {
         "0 1 2 ",
     ];
     for text in texts {
-        assert_eq!(rt; read(text), Err(FormFault::NotOfTheForm), "{}", text);
+        assert_eq!(rt;
+            read(text.as_bytes()),
+            Err(FormFault::NotOfTheForm),
+            "{}",
+            text
+        );
     }
 }
 
+// No list is passed that a refusal could change.
 #[test]
 fn a_refusal_keeps_the_list(rt: HostRuntime) {
-    let mut words = [NO_WORD; 128];
-    assert_eq!(rt;
-        read_words(b"1 2 3 4\n1 2 3\n", &mut words),
-        Err(FormFault::NotOfTheForm)
-    );
-    assert_eq!(rt; words[0], NO_WORD);
-}
-
-fn repeat(line: &[u8; 8], text: &mut [u8]) {
-    for at in 0..text.len() {
-        text[at] = line[at % 8];
-    }
+    assert_eq!(rt; read(b"1 2 3 4\n1 2 3\n"), Err(FormFault::NotOfTheForm));
 }
 
 #[test]
 fn most_lines(rt: HostRuntime) {
-    let mut bytes = [0u8; 1032];
-    repeat(b"0 1 2 3\n", &mut bytes);
-    let mut words = [NO_WORD; 128];
-    assert_eq!(rt; read_words(&bytes[0..1024], &mut words), Ok(128));
-    assert_eq!(rt;
-        read_words(&bytes[0..1025], &mut words),
-        Err(FormFault::TooManyLines)
-    );
+    let mut bytes: [u8; 1032] = from_fn(|at| b"0 1 2 3\n"[at % 8]);
+    assert_eq!(rt; read(&bytes[0..1024]), Ok(128));
+    assert_eq!(rt; read(&bytes[0..1025]), Err(FormFault::TooManyLines));
     bytes[1016] = b'x';
-    assert_eq!(rt;
-        read_words(&bytes, &mut words),
-        Err(FormFault::NotOfTheForm)
-    );
+    assert_eq!(rt; read(&bytes), Err(FormFault::NotOfTheForm));
 }

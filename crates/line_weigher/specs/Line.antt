@@ -1,11 +1,10 @@
 -- What the line of a text weighs, or the number of its refusal: first its form, then its words, then its derivations. Assumes nothing.
-use Rattle.std.specs.Prelude.{ℕ, List, Some, None, Ok, Err, Result}
+use Rattle.std.specs.Prelude.{ℕ, List, Ok, Err, Result}
 use Rattle.weighing.specs.Weighings.{sum_weights}
 use Rattle.grammar.specs.Count.{line, count_rules}
 use Rattle.lattice.specs.declared.word.Word.{Word}
-use Rattle.lattice.specs.Checking.{words_refusal}
 use Rattle.lattice.specs.Heard.{largest_end}
-use Rattle.line_format.specs.Lines.{text_words}
+use Rattle.stock_reader.specs.Understanding.{words_told, text_told}
 use Rattle.chart_model.specs.Task.{Task}
 use Rattle.chart_model.specs.Derivation.{Derives}
 use Rattle.chart_model.specs.Plain.{opened, settled, settled_answer}
@@ -16,7 +15,7 @@ use Rattle.chart.specs.View.{room}
 use Rattle.chart.specs.declared.refusal.SettledRefusal.{SettledRefusal}
 use Rattle.chart.specs.declared.refusal.SettledRefusal.TheVariants.{NoStretch, NoDerivation, Full}
 use Rattle.line_weigher.specs.declared.refusal.Refusal.{Refusal}
-use Rattle.line_weigher.specs.declared.refusal.Refusal.TheVariants.{Form, Lattice, Chart}
+use Rattle.line_weigher.specs.declared.refusal.Refusal.TheVariants.{Text, Chart}
 
 -- heard words, read as stock counts, with doubts added up
 abbrev pub line_task : List Word → Task
@@ -32,11 +31,11 @@ line_weight ws = settled_answer (line_task ws) (settled (line_task ws) room (ope
 
 -- words that make no lattice are refused
 abbrev pub words_weight : List Word → Result ℕ ℕ
-words_weight ws = elim (words_refusal ws) [ None ↦ line_weight ws | Some refusal ↦ Err refusal.0 ]
+words_weight ws = words_told line_weight ws
 
 -- and so is what is not of the form
 abbrev pub text_weight : List ℕ → Result ℕ ℕ
-text_weight text = elim (text_words text) [ Ok ws ↦ words_weight ws | Err number ↦ Err number ]
+text_weight text = text_told line_weight text
 
 -- what a chart's answer says of the derivations of the line
 abbrev pub LineSays : List Word → Result ℕ SettledRefusal → Type 0
@@ -49,5 +48,4 @@ LineSays ws (Err NoStretch) = ⊥
 abbrev pub TextSays : List Word → Result ℕ Refusal → Type 0
 TextSays ws (Ok w) = LineSays ws (Ok w)
 TextSays ws (Err (Chart refusal)) = LineSays ws (Err refusal)
-TextSays ws (Err (Form fault)) = ⊥
-TextSays ws (Err (Lattice fault)) = ⊥
+TextSays ws (Err (Text refusal)) = ⊥

@@ -1,45 +1,33 @@
-// Why a text has no weight: its form, its words, or its derivations.
+// Why a text has no weight: it is not understood, or its derivations give none.
 ghost use Rattle.std.specs.Prelude.{◌≡◌};
-ghost use Rattle.line_weigher.specs.declared.refusal.Refusal.TheVariants.{Form, Lattice, Chart};
+ghost use Rattle.line_weigher.specs.declared.refusal.Refusal.TheVariants.{Text, Chart};
 ghost use Rattle.line_weigher.specs.Refusals.{refusal_number};
 
 use chart::refusal::SettledRefusal;
-use lattice::fault::LatticeFault;
-use line_format::fault::FormFault;
+use records::numbered::Numbered;
 
 #[derive(Clone, Copy, PartialEq, Eq, Debug)]
 pub enum Refusal {
-    Form(FormFault),
-    Lattice(LatticeFault),
+    Text(stock_reader::refusal::Refusal),
     Chart(SettledRefusal),
 }
 
-impl Refusal {
-    // The number of the refusal.
-    pub fn number(self) -> u8
-        ensures { result ≡ refusal_number self }
-    {
+impl Numbered for Refusal {
+    ghost number = { refusal_number };
+
+    fn number(self) -> u8 {
         match self {
-            Refusal::Form(fault) => fault.number(),
-            Refusal::Lattice(fault) => fault.number(),
+            Refusal::Text(refusal) => refusal.number(),
             Refusal::Chart(refusal) => refusal.number(),
         }
     }
 }
 
-impl From<FormFault> for Refusal {
-    ghost from_gives = { λ fault r. r ≡ Form fault };
+impl From<stock_reader::refusal::Refusal> for Refusal {
+    ghost from_gives = { λ refusal r. r ≡ Text refusal };
 
-    fn from(fault: FormFault) -> Refusal {
-        Refusal::Form(fault)
-    }
-}
-
-impl From<LatticeFault> for Refusal {
-    ghost from_gives = { λ fault r. r ≡ Lattice fault };
-
-    fn from(fault: LatticeFault) -> Refusal {
-        Refusal::Lattice(fault)
+    fn from(refusal: stock_reader::refusal::Refusal) -> Refusal {
+        Refusal::Text(refusal)
     }
 }
 

@@ -1,15 +1,9 @@
 // Lines, and what they weigh.
 use super::*;
-use crate::refusal::*;
-use chart::refusal::*;
-use lattice::fault::*;
-use line_format::fault::*;
+use records::numbered::Numbered;
 
 fn number(text: &str) -> u8 {
-    match weigh_text(text.as_bytes()) {
-        Ok(_) => 0,
-        Err(refusal) => refusal.number(),
-    }
+    weigh_text(text.as_bytes()).map_or_else(|refusal| refusal.number(), |_| 0)
 }
 
 #[test]

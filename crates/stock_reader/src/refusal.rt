@@ -5,6 +5,7 @@ ghost use Rattle.stock_reader.specs.Refusals.{refusal_number};
 
 use lattice::fault::LatticeFault;
 use line_format::fault::FormFault;
+use records::numbered::Numbered;
 
 #[derive(Clone, Copy, PartialEq, Eq, Debug)]
 pub enum Refusal {
@@ -12,11 +13,10 @@ pub enum Refusal {
     Lattice(LatticeFault),
 }
 
-impl Refusal {
-    // The number of the refusal.
-    pub fn number(self) -> u8
-        ensures { result ≡ refusal_number self }
-    {
+impl Numbered for Refusal {
+    ghost number = { refusal_number };
+
+    fn number(self) -> u8 {
         match self {
             Refusal::Form(fault) => fault.number(),
             Refusal::Lattice(fault) => fault.number(),

@@ -1,9 +1,6 @@
-use Rattle.line_format.proofs.Pieces.{after_shorter}
-use Rattle.line_format.proofs.TextLines.{first_line, only_line}
+use Rattle.std.proofs.Common.{refl}
+use Rattle.line_format.proofs.TextLines.{line_or_all}
 use Rattle.line_format.proofs.text.first_line.Goals as goal
 
-pub returns-in-Some : goal.returns-in-Some
-returns-in-Some c = let p = c.in-Some.ensures in record { lines = first_line p; shorter = after_shorter p }
-
-pub returns-in-None : goal.returns-in-None
-returns-in-None c = record { lines = only_line c.args.text.now c.requires c.in-None.ensures; shorter = c.requires }
+pub returns-clause-lines : goal.returns-clause-lines
+returns-clause-lines c = rw c.unwrap_or.ensures (line_or_all c.args.text _ c.split_once.result c.requires refl c.split_once.ensures)
