@@ -3,8 +3,14 @@ use Rattle.std.specs.Prelude.{ℕ, suc, Bool, true, false, List, [], ◌∷◌, 
 use Rattle.chart_model.specs.Task.{Task}
 use Rattle.chart_model.specs.Plain.{Chart, same_edge, is_open, arrive_all, arrivals, finishing}
 use Rattle.chart_model.specs.declared.edge.Edge.{Edge}
+use Rattle.chart_model.specs.declared.edge.Edge.TheVariants.{Passive}
+use Rattle.chart_model.specs.declared.origin.Origin.TheVariants.{Word as FromWord}
 use Rattle.chart_model.specs.declared.place.Place.{Place}
 use Rattle.chart_model.specs.declared.place.Standing.{Standing}
+
+-- what stands in room that no edge has taken
+abbrev pub unused : Place
+unused = record { edge = Passive 0 0 0; weight = 0; origin = FromWord 0; finished = None }
 
 -- the edge at place n
 abbrev pub seen : ℕ → Place → Standing

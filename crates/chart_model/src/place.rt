@@ -1,7 +1,7 @@
 // The places of a chart, each with an edge, and what comes to them.
 ghost use Rattle.std.specs.Prelude.{◌≡◌};
 ghost use Rattle.chart_model.specs.Plain.{fresh};
-ghost use Rattle.chart_model.specs.Standings.{seen};
+ghost use Rattle.chart_model.specs.Standings.{unused, seen};
 
 use crate::edge::Edge;
 use crate::origin::Origin;
@@ -33,6 +33,8 @@ pub struct Standing {
 
 // What stands in room that no edge has taken yet.
 impl Default for Place {
+    ghost is_default = { λ place. place ≡ unused };
+
     fn default() -> Self {
         Place {
             edge: Edge::Passive {
