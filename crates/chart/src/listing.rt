@@ -4,7 +4,7 @@ ghost use Rattle.chart.specs.Reading.{Wrote, filled_then};
 
 use chart_model::node::Node;
 
-// The nodes so far, and those of the caller's after them.
+// The nodes so far, and those of the caller's after them. The memory is the caller's, so it is a slice and how far it is filled.
 #[derive(Drop)]
 pub(crate) struct Listing<'a> {
     pub(crate) nodes: &'a mut [Node],

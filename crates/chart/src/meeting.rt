@@ -33,6 +33,7 @@ impl<G: Grammar, L: Lattice, W: Weighing> Setting<G, L, W> {
     pub(crate) fn begin(&self, rule: u8, child: Standing) -> Option<Arrival>
         ensures { result ≡ brought_by (rule_brings (W.weights self.now.weighing) child) (G.rules self.now.grammar) rule }
     {
+        // What kind an edge is of is no option, so `?` has nothing to pass on; the same in `take`.
         let Edge::Passive { symbol, from, to } = child.edge else {
             return None;
         };

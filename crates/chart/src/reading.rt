@@ -30,7 +30,7 @@ impl<'a> FinishedAt<'a> {
         self.table.place(self.at)
     }
 
-    // The rule of an active edge.
+    // The rule of an active edge. Of a passive one, which is not asked, it answers as `rule_at` does, so as to say what it says.
     fn rule(&self) -> u8
         ensures { result ≡ rule_at (held self.now.table.now).places self.now.at }
     {
@@ -46,6 +46,7 @@ impl<'a> FinishedAt<'a> {
     {
         let table = self.table;
         let place = self.place();
+        // What kind an edge is of is no option, so `?` has nothing to pass on.
         let Edge::Passive { from, to, .. } = place.edge else {
             return None;
         };

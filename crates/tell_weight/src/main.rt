@@ -10,6 +10,7 @@ fn main(rt: HostRuntime) -> io::Result<()> {
     let text = read_text(rt.stdin())?;
     match weigh_text(&text) {
         Ok(weight) => println!(rt; "weight {weight}"),
+        // The number, since a `Display` of the refusal of each program would be written twice.
         Err(refusal) => println!(rt; "refused {}", refusal.number()),
     }
 }
