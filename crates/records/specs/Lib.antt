@@ -1,2 +1,3 @@
 pub mod Lists
 pub mod Faults
+pub mod Telling

@@ -2,7 +2,7 @@
 #![tactic(auto)]
 
 use line_format::input::read_text;
-use records::numbered::Numbered;
+use records::numbered::Refused;
 use std::io;
 use stock_reader::understand;
 
@@ -10,7 +10,6 @@ fn main(rt: HostRuntime) -> io::Result<()> {
     let text = read_text(rt.stdin())?;
     match understand(&text) {
         Ok(understood) => println!(rt; "{understood}"),
-        // The number, since a `Display` of the refusal of each program would be written twice.
-        Err(refusal) => println!(rt; "refused {}", refusal.number()),
+        Err(refusal) => println!(rt; "{}", Refused(refusal)),
     }
 }

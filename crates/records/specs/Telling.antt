@@ -1,0 +1,6 @@
+-- How a refusal is told. Assumes nothing.
+use Rattle.std.specs.Prelude.{ℕ, List, ◌++◌, codes, decimal}
+
+-- one line without its line feed
+abbrev pub refused_text : ℕ → List ℕ
+refused_text number = codes "refused " ++ decimal number
