@@ -4,18 +4,17 @@ use Rattle.std.proofs.lemmas.List.{take_more_set}
 use Rattle.chart_model.specs.Task.{Task}
 use Rattle.chart_model.specs.Plain.{Chart}
 use Rattle.chart.specs.declared.call.Call.{Call}
-use Rattle.chart.specs.declared.call.Call.TheVariants.{Step, Question}
-use Rattle.chart.specs.declared.call.FinalQuestion.{FinalQuestion}
+use Rattle.chart.specs.declared.call.Call.TheVariants.{Step, Question as Asks}
 use Rattle.chart.specs.declared.phrase.Phrase.{Phrase}
 use Rattle.chart.specs.declared.refusal.SettledRefusal.{SettledRefusal}
-use Rattle.chart.specs.Calls.{LightestTold, TruthTold}
+use Rattle.chart.specs.Calls.{FinalQuestion, LightestTold, TruthTold}
 use Rattle.chart.specs.Saying.{SettledSays}
 
 -- one more call that tells the lightest
 lightest_more : (t : Task) (calls : List Call) (call : Call) → LightestTold t calls → LightestTold t (call ∷ []) → LightestTold t (calls ++ call ∷ [])
 lightest_more t [] call told one = one
 lightest_more t (Step a ∷ calls) call told one = lightest_more t calls call told one
-lightest_more t (Question p a ∷ calls) call (first, told) one = (first, lightest_more t calls call told one)
+lightest_more t (Asks q ∷ calls) call (first, told) one = (first, lightest_more t calls call told one)
 
 -- one more question that tells the truth
 truth_more : (t : Task) (c : Chart) (questions : List FinalQuestion) (question : FinalQuestion) →

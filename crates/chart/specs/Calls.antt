@@ -9,12 +9,16 @@ use Rattle.chart.specs.declared.refusal.StepRefusal.{StepRefusal}
 use Rattle.chart.specs.declared.refusal.QuestionRefusal.{QuestionRefusal}
 use Rattle.chart.specs.declared.refusal.SettledRefusal.{SettledRefusal}
 use Rattle.chart.specs.declared.call.Call.{Call}
-use Rattle.chart.specs.declared.call.Call.TheVariants.{Step, Question}
-use Rattle.chart.specs.declared.call.FinalQuestion.{FinalQuestion}
+use Rattle.chart.specs.declared.call.Call.TheVariants.{Step, Question as Asks}
+use Rattle.chart.specs.declared.call.Question.{Question}
 use Rattle.chart.specs.Phrases.{edge_of}
 use Rattle.chart.specs.Refusals.{step_number, question_number, settled_number, told}
 use Rattle.chart.specs.Saying.{SettledSays}
 use Rattle.chart.specs.View.{room}
+
+-- a question to a settled chart
+abbrev pub FinalQuestion : Type 0
+FinalQuestion = Question SettledRefusal
 
 -- ONE AFTER THE OTHER
 
@@ -35,15 +39,22 @@ InTurn next becomes c (x ∷ xs) (y ∷ ys) = becomes c x y × InTurn next becom
 -- a question changes nothing
 abbrev pub after_call : Task → Call → Chart → Chart
 after_call t (Step a) c = step t room c
-after_call t (Question p a) c = c
+after_call t (Asks q) c = c
 
 abbrev pub after_calls : Task → List Call → Chart → Chart
 after_calls t calls c = after_all (after_call t) calls c
 
+-- the question has become one with its answer, by the number of its refusal
+abbrev pub Answered : {E : Type 0} → (E → ℕ) → (ℕ → ℕ → ℕ → Result ℕ ℕ) → Question E → Question E → Type 0
+Answered {E = E} number answer q asked =
+    (r : Result ℕ E)
+    × (asked ≡ record { phrase = q.phrase; answer = Some r })
+    × (told number r ≡ answer q.phrase.symbol q.phrase.from q.phrase.to)
+
 -- the call was made at this chart, and has its answer
 abbrev pub Made : Task → Chart → Call → Call → Type 0
 Made t c (Step a) made = (r : Result ℕ StepRefusal) × (made ≡ Step (Some r)) × (told step_number r ≡ step_answer t room c)
-Made t c (Question p a) made = (r : Result ℕ QuestionRefusal) × (made ≡ Question p (Some r)) × (told question_number r ≡ working_answer t c p.symbol p.from p.to)
+Made t c (Asks q) made = (asked : Question QuestionRefusal) × (made ≡ Asks asked) × Answered question_number (working_answer t c) q asked
 
 -- the calls were made in order, from this chart on
 abbrev pub AllMade : Task → Chart → List Call → List Call → Type 0
@@ -51,10 +62,7 @@ AllMade t c calls made = InTurn (after_call t) (Made t) c calls made
 
 -- the question was asked of this settled chart, and has its answer
 abbrev pub Asked : Task → Chart → FinalQuestion → FinalQuestion → Type 0
-Asked t c q made =
-    (r : Result ℕ SettledRefusal)
-    × (made ≡ record { phrase = q.phrase; answer = Some r })
-    × (told settled_number r ≡ settled_answer t c q.phrase.symbol q.phrase.from q.phrase.to)
+Asked t c q made = Answered settled_number (settled_answer t c) q made
 
 abbrev pub AllAsked : Task → Chart → List FinalQuestion → List FinalQuestion → Type 0
 AllAsked t c questions made = InTurn (λ _ d. d) (Asked t) c questions made
@@ -75,8 +83,8 @@ Lent So (Some before) _ = ⊥
 abbrev pub LightestTold : Task → List Call → Type 0
 LightestTold t [] = Unit {0}
 LightestTold t (Step a ∷ calls) = LightestTold t calls
-LightestTold t (Question p a ∷ calls) =
-    ((w : ℕ) → a ≡ Some (Ok w) → Weighs t (edge_of p) w × NoneLighter t (edge_of p) w) × LightestTold t calls
+LightestTold t (Asks q ∷ calls) =
+    ((w : ℕ) → q.answer ≡ Some (Ok w) → Weighs t (edge_of q.phrase) w × NoneLighter t (edge_of q.phrase) w) × LightestTold t calls
 
 -- each answer of a settled chart is true, and exact
 abbrev pub TruthTold : Task → Chart → List FinalQuestion → Type 0

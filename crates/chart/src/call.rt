@@ -2,6 +2,13 @@
 use crate::phrase::Phrase;
 use crate::refusal::{QuestionRefusal, SettledRefusal, StepRefusal};
 
+// A question about a phrase, with its answer once it has been asked.
+#[derive(Clone, Copy, PartialEq, Eq, Debug)]
+pub struct Question<E> {
+    pub phrase: Phrase,
+    pub answer: Option<Result<u64, E>>,
+}
+
 // A call on a working chart, with its answer once it has been made.
 // A call is a value and no closure, since the laws of a run speak of every list of calls.
 #[derive(Clone, Copy, PartialEq, Eq, Debug)]
@@ -9,15 +16,8 @@ pub enum Call {
     Step {
         answer: Option<Result<u16, StepRefusal>>,
     },
-    Question {
-        phrase: Phrase,
-        answer: Option<Result<u64, QuestionRefusal>>,
-    },
+    Question(Question<QuestionRefusal>),
 }
 
-// A question to a settled chart, with its answer once it has been asked.
-#[derive(Clone, Copy, PartialEq, Eq, Debug)]
-pub struct FinalQuestion {
-    pub phrase: Phrase,
-    pub answer: Option<Result<u64, SettledRefusal>>,
-}
+// A question to a settled chart.
+pub type FinalQuestion = Question<SettledRefusal>;

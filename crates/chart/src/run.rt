@@ -24,7 +24,7 @@ fn make<G: Grammar, L: Lattice, W: Weighing>(chart: &mut WorkingChart<G, L, W>, 
 {
     match call {
         Call::Step { answer } => *answer = Some(chart.step()),
-        Call::Question { phrase, answer } => *answer = Some(chart.question(*phrase)),
+        Call::Question(question) => question.answer = Some(chart.question(question.phrase)),
     }
 }
 
