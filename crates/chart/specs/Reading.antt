@@ -1,7 +1,8 @@
 -- Nodes written over a caller's list, from a place of it on. Assumes nothing.
-use Rattle.std.specs.Prelude.{◌≡◌, ℕ, zero, suc, ◌+◌, ◌<◌, ◌≤◌, List, [], ◌∷◌, length, Some, None, Option, MatchOption}
+use Rattle.std.specs.Prelude.{◌≡◌, ℕ, zero, suc, ◌+◌, ◌<◌, ◌≤◌, List, [], ◌∷◌, length, Some, None, Option, Result, MatchOption}
 use Rattle.std.specs.List.{slice_get}
 use Rattle.std.specs.Option.{option_map}
+use Rattle.std.specs.Result.{result_ok}
 use Rattle.chart_model.specs.Reading.{named, over}
 use Rattle.chart_model.specs.declared.node.Node.{Node}
 use Rattle.chart_model.specs.declared.place.Place.{Place}
@@ -28,5 +29,5 @@ abbrev pub Wrote : List Node → List Node → List Node → ℕ → Option ℕ 
 Wrote ns before after filled r = (after ≡ over_from filled ns before) × Filled ns (length before) filled r
 
 -- so many are filled then, unless there was no room
-abbrev pub filled_then : ℕ → Option (Unit {0}) → Option ℕ
-filled_then n r = option_map (λ _. n) r
+abbrev pub filled_then : {E : Type 0} → ℕ → Result (Unit {0}) E → Option ℕ
+filled_then n r = option_map (λ _. n) (result_ok r)

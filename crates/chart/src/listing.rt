@@ -13,15 +13,19 @@ pub(crate) struct Listing<'a> {
 }
 
 impl<'a> Listing<'a> {
-    // One node more; none where there is no room. It writes by index, since a write through `get_mut` was not proved.
-    pub(crate) fn push(&mut self, node: Node) -> Option<()>
+    // One node more, where there is room. It writes by index, since a write through `get_mut` was not proved.
+    pub(crate) fn push(&mut self, node: Node) -> Result<(), NoRoom>
         ensures { Wrote (node ∷ []) self.old.nodes.now self.new.nodes.now self.old.filled (filled_then self.new.filled result) }
     {
         if self.filled == self.nodes.len() {
-            return None;
+            return Err(NoRoom);
         }
         self.nodes[self.filled] = node;
         self.filled += 1;
-        Some(())
+        Ok(())
     }
 }
+
+// The list is filled.
+#[derive(Clone, Copy, PartialEq, Eq, Debug)]
+pub(crate) struct NoRoom;

@@ -7,7 +7,7 @@ ghost use Rattle.chart.specs.Charts.{held};
 ghost use Rattle.chart.specs.Reading.{own_at, Wrote, filled_then};
 ghost use Rattle.chart.specs.View.{Named};
 
-use crate::listing::Listing;
+use crate::listing::{Listing, NoRoom};
 use crate::table::Table;
 use chart_model::edge::Edge;
 use chart_model::node::{Kind, Node};
@@ -64,26 +64,26 @@ impl<'a> FinishedAt<'a> {
         })
     }
 
-    // Writes its own node; none where there is no room.
-    fn write_own(&self, listing: &mut Listing<'_>) -> Option<()>
+    // Writes its own node, where there is room.
+    fn write_own(&self, listing: &mut Listing<'_>) -> Result<(), NoRoom>
         ensures { Wrote (own_at (held self.now.table.now).places self.now.at) listing.old.nodes.now listing.new.nodes.now listing.old.filled (filled_then listing.new.filled result) }
     {
         match self.own_node() {
             Some(node) => listing.push(node),
-            None => Some(()),
+            None => Ok(()),
         }
     }
 
     // Writes its nodes; none where there is no room for all.
     // It ends since an origin names only edges that were finished before.
-    pub(crate) fn walk(&self, listing: &mut Listing<'_>) -> Option<()>
+    pub(crate) fn walk(&self, listing: &mut Listing<'_>) -> Result<(), NoRoom>
         ensures { Wrote (reading_at (held self.now.table.now).places self.now.at) listing.old.nodes.now listing.new.nodes.now listing.old.filled (filled_then listing.new.filled result) }
     {
         let table = self.table;
         let place = self.place();
         self.write_own(listing)?;
         match place.origin {
-            Origin::Word(_) | Origin::Empty(_) => Some(()),
+            Origin::Word(_) | Origin::Empty(_) => Ok(()),
             Origin::First { child, .. } => FinishedAt { table, at: child }.walk(listing),
             Origin::Next { active, child } => {
                 FinishedAt { table, at: active }.walk(listing)?;

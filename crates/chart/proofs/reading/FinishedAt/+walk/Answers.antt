@@ -1,3 +1,4 @@
+use Rattle.std.proofs.lemmas.Result.{err_from_is_err_and}
 use Rattle.chart.specs.Reading.{filled_then}
 use Rattle.chart.proofs.Walking.{first_named, next_named, walks_none, walks_first, walks_active_none, walks_next}
 use Rattle.chart.proofs.reading.FinishedAt.+walk.Goals as goal
@@ -6,7 +7,8 @@ pub returns-in_err-write_own : goal.returns-in_err-write_own
 returns-in_err-write_own t c =
     let before = c.args.listing.now in
     let own = c.write_own.new.listing in
-    rw c.from_residual.ensures (walks_none c.args.self.now c.place-place.result c.place-place.ensures before.nodes.now own.nodes.now before.filled c.in_err-write_own.ensures)
+    let p = err_from_is_err_and c.from_residual.result c.from_residual.ensures.1 in
+    rw p.1 (walks_none c.args.self.now c.place-place.result c.place-place.ensures before.nodes.now own.nodes.now before.filled c.in_err-write_own.ensures)
 
 pub invariant_of-walk : goal.invariant_of-walk
 invariant_of-walk t c =
@@ -40,7 +42,8 @@ pub returns-in_err-walk-in-Next : goal.returns-in_err-walk-in-Next
 returns-in_err-walk-in-Next t c =
     let before = c.args.listing.now in
     let own = c.write_own.new.listing in
-    rw c.from_residual-in_err-walk-in-Next.ensures (walks_active_none c.args.self.now c.place-place.result c.place-place.ensures before.nodes.now own.nodes.now before.filled own.filled c.in_ok-write_own.ensures
+    let p = err_from_is_err_and c.from_residual-in_err-walk-in-Next.result c.from_residual-in_err-walk-in-Next.ensures.1 in
+    rw p.1 (walks_active_none c.args.self.now c.place-place.result c.place-place.ensures before.nodes.now own.nodes.now before.filled own.filled c.in_ok-write_own.ensures
     c.walk-in-Next.new.listing.nodes.now c.in-Next.active c.in-Next.child c.in-Next.is c.in_err-walk-in-Next.ensures)
 
 pub invariant_of-walk-in-Next-2 : goal.invariant_of-walk-in-Next-2
