@@ -5,6 +5,7 @@ ghost use Rattle.chart.specs.Phrases.{edge_of, edge_within};
 use chart_model::edge::Edge;
 
 // A symbol over a stretch, from a node to a node.
+// An edge that is passive has the same three fields and holds no phrase: definitions take them one by one.
 #[derive(Clone, Copy, PartialEq, Eq, Debug)]
 pub struct Phrase {
     pub symbol: u8,

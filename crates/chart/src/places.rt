@@ -76,6 +76,7 @@ impl Places {
         let mut best = None;
         for (at, place) in self.slots.iter().enumerate().rev() {
             if place.finished.is_none() {
+                // The number of a place fits 16 bits, so its cast is plainer than a test that cannot fail.
                 best = Some(lighter_of(weighing, place.seen(at as u16), best));
             }
         }

@@ -12,8 +12,8 @@ use chart_model::place::{Arrival, Place, Standing};
 use weighing::Weighing;
 
 // An origin names only finished edges, with lower numbers than its own edge has or will get.
-// Ghost fields and no model, since the proofs of callers read these facts of a table that no call has opened.
-// One of them is that no more places are taken than there is room for: a vector says so only where its methods are called.
+// Ghost fields and no model: the facts of a model are at hand only where a method is called, and settling needs them between calls.
+// That the edge of an answer is finished (`Named`) is a clause and no field of it: an answer outlives the table's next change.
 #[derive(Drop)]
 pub(crate) struct Table {
     places: Places,

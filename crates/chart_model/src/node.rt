@@ -1,4 +1,5 @@
 // One node of a reading: a word of the lattice or a rule of the grammar, by its number, over a stretch.
+// The kind stands beside the number, and not around it: a caller's list is of records of four fields, one form for both kinds.
 #[derive(Clone, Copy, PartialEq, Eq, Debug)]
 pub enum Kind {
     Word,

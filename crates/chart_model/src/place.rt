@@ -6,6 +6,8 @@ ghost use Rattle.chart_model.specs.Standings.{unused, seen};
 use crate::edge::Edge;
 use crate::origin::Origin;
 
+// Edge, weight and origin are those of the lightest arrival so far. They are written out, and not an arrival in the place: what
+// stands at a place is spoken of everywhere, and that it once arrived in one line.
 // A finished edge has its number in the order of finishing, from 1; one without a number is open, and may still get lighter.
 #[derive(Clone, Copy, PartialEq, Eq, Debug)]
 pub struct Place {

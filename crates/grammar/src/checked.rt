@@ -34,7 +34,7 @@ impl Record for RuleRecord {
 // Rules that were checked.
 pub type CheckedRules<'a> = Checked<'a, RuleRecord>;
 
-// No rules yet. It stands here and not once for all records, since a body for all of them could not name a wrong list.
+// No rules yet. It stands here, since each public function has a wrong form that is refused: one for all kinds has none.
 pub fn no_rules<'a>() -> CheckedRules<'a>
     ensures { result.records.now ≡ [] }
 {

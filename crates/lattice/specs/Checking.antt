@@ -1,7 +1,13 @@
 -- Which words are refused, by which number, and in which order that is tested. Assumes nothing.
-use Rattle.std.specs.Prelude.{ℕ, true, false, List, length, Some, None, Option, nat_le}
+use Rattle.std.specs.Prelude.{◌≡◌, ℕ, true, false, List, length, Some, None, Option, Result, nat_le}
+use Rattle.std.specs.Option.{option_map}
+use Rattle.std.specs.Result.{result_err}
 use Rattle.records.specs.Lists.{list_refusal}
+use Rattle.records.specs.Faults.{TellsRefusal}
+use Rattle.records.specs.declared.fault.ListFault.{ListFault}
 use Rattle.lattice.specs.declared.word.Word.{Word}
+use Rattle.lattice.specs.declared.fault.WordFault.{WordFault}
+use Rattle.lattice.specs.Faults.{too_many_words, word_number, told}
 use Rattle.lattice.specs.Words.{forward, greatest_node, most_words}
 
 -- 1 for a word that breaks the law of its two ends, else 2 for one that ends past the greatest node
@@ -15,6 +21,10 @@ word_refusal w =
 -- 3 for too many words, before any word is looked at; else the refusal of the first word that has one, and its place
 abbrev pub words_refusal : List Word → Option (ℕ × Option ℕ)
 words_refusal ws = list_refusal most_words 3 word_refusal ws
+
+-- what the check of such a list tells (`Checked`), which is said there for all kinds of records
+pub words_told : {A : Type 0} (xs : List Word) (r : Result A (ListFault WordFault)) → TellsRefusal most_words too_many_words word_number word_refusal xs r → option_map told (result_err r) ≡ words_refusal xs
+words_told xs r tells = tells
 
 -- 4 for a typed line with more bytes than the greatest node
 abbrev pub typed_refusal : List ℕ → Option ℕ

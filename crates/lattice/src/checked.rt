@@ -36,7 +36,7 @@ impl Record for Word {
 // Words that were checked.
 pub type CheckedWords<'a> = Checked<'a, Word>;
 
-// No words yet. It stands here and not once for all records, since a body for all of them could not name a wrong list.
+// No words yet. It stands here, since each public function has a wrong form that is refused: one for all kinds has none.
 pub fn no_words<'a>() -> CheckedWords<'a>
     ensures { result.records.now ≡ [] }
 {

@@ -57,6 +57,7 @@ impl<'a> Lattice for TypedLine<'a> {
     ghost limits = { λ s. typed_limits s.bytes.now s.short };
 
     fn last_node(&self) -> u8 {
+        // A line is short, so the cast is plainer than a test that cannot fail; the same below.
         self.bytes.len() as u8
     }
 

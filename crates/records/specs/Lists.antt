@@ -1,4 +1,4 @@
--- The refusal of a list of records: of its first record that is refused. Assumes nothing.
+-- The refusal of a list of records: of its length, or of its first record that is refused. Assumes nothing.
 use Rattle.std.specs.Prelude.{ℕ, suc, true, false, List, [], ◌∷◌, length, Some, None, Option, nat_le}
 use Rattle.std.specs.Option.{option_map, option_or}
 

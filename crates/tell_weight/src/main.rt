@@ -1,4 +1,5 @@
 // Reads heard words from standard input, and tells the weight of the lightest line that they make.
+// Alike to the other program but for what it asks and prints, which is all that a program has of its own.
 #![tactic(auto)]
 
 use line_format::input::read_text;
