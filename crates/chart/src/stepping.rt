@@ -40,6 +40,7 @@ impl<G: Grammar, L: Lattice, W: Weighing> Setting<G, L, W> {
         requires { Named (held table.old) finished.at }
         ensures { held table.new ≡ arrive_all room (W.weights self.now.weighing).lighter (held table.old) (arrivals (task_of G.rules L.last L.words W.weights self.now) finished (held table.old).places) }
     {
+        // The number of a rule fits 8 bits, so its cast is plainer than a test that cannot fail.
         self.bring_each(
             table,
             self.grammar.len(),

@@ -59,6 +59,7 @@ impl Table {
     {
         let place = self.places.at(at)?;
         place.finished?;
+        // The number of a place fits 16 bits, so its cast is plainer than a test that cannot fail.
         Some(place.seen(at as u16))
     }
 
@@ -67,7 +68,7 @@ impl Table {
         requires { Named (view self.now.places) at }
         ensures { slice_get (view self.now.places).places at ≡ Some result }
     {
-        self.places.slots[at as usize]
+        self.places.slots[usize::from(at)]
     }
 
     // An edge with its place, if it is finished.
@@ -100,7 +101,7 @@ impl Table {
         ensures earlier { IfSome result (λ s. Named (view self.new.places) s.at) }
     {
         let lightest = self.places.lightest(weighing)?;
-        self.places.finish(lightest.at as usize);
+        self.places.finish(usize::from(lightest.at));
         Some(lightest)
     }
 }

@@ -10,14 +10,14 @@ finish-requires g c =
     let t = c.args.self.now in
     let lighter = (g.W.Weighing.weights c.args.weighing.now).lighter in
     let f = found lighter (held t) (kept t) _ (sym c.in_ok-lightest.ensures) in
-    record { within = f.within; numbers = f.left }
+    rw c.from.ensures (record { within = f.within; numbers = f.left })
 
 pub invariant_of-self : goal.invariant_of-self
 invariant_of-self g c =
     let t = c.args.self.now in
     let lighter = (g.W.Weighing.weights c.args.weighing.now).lighter in
     let f = found lighter (held t) (kept t) _ (sym c.in_ok-lightest.ensures) in
-    let still = subst Kept (sym c.finish.ensures) f.kept in
+    let still = subst Kept (sym (rw c.from.ensures at c.finish.ensures)) f.kept in
     record { room = still.fits; counted = still.counted; orderly = still.orderly }
 
 pub returns-clause-earlier : goal.returns-clause-earlier
@@ -25,4 +25,4 @@ returns-clause-earlier g c =
     let t = c.args.self.now in
     let lighter = (g.W.Weighing.weights c.args.weighing.now).lighter in
     let f = found lighter (held t) (kept t) _ (sym c.in_ok-lightest.ensures) in
-    subst (λ (d : Chart). Named d c.in_ok-lightest.lightest.at) (sym c.finish.ensures) f.named
+    subst (λ (d : Chart). Named d c.in_ok-lightest.lightest.at) (sym (rw c.from.ensures at c.finish.ensures)) f.named
