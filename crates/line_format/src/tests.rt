@@ -1,9 +1,11 @@
 // Texts of the form, and texts that are not.
 use super::*;
 use crate::fault::*;
+use crate::input::read_text;
 use crate::text::read_words;
 use lattice::word::Word;
 use std::array::from_fn;
+use std::test::Fail;
 
 // How many words a text has.
 fn read(text: &[u8]) -> Result<usize, FormFault> {
@@ -72,4 +74,14 @@ fn most_lines(rt: HostRuntime) {
     assert_eq!(rt; read(&bytes[0..1025]), Err(FormFault::TooManyLines));
     bytes[1016] = b'x';
     assert_eq!(rt; read(&bytes), Err(FormFault::NotOfTheForm));
+}
+
+#[test]
+fn inputs(rt: HostRuntime) -> Result<(), Fail> {
+    let text = read_text("0 1 2 3\n".as_bytes())?;
+    assert_eq!(rt; text.as_slice(), "0 1 2 3\n".as_bytes());
+    let long = [b'0'; 2306];
+    assert_eq!(rt; read_text(long.as_slice())?.len(), 2305);
+    assert_eq!(rt; read_text("".as_bytes())?.len(), 0);
+    Ok(())
 }
