@@ -6,6 +6,7 @@ use Rattle.std.specs.Result.{result_ok}
 use Rattle.chart_model.specs.Reading.{named, over}
 use Rattle.chart_model.specs.declared.node.Node.{Node}
 use Rattle.chart_model.specs.declared.place.Place.{Place}
+use Rattle.chart.specs.declared.listing.Listing.{Listing}
 
 -- the node of an edge itself, without those below it; an active edge has none
 abbrev pub own : List Place → Place → List Node
@@ -31,3 +32,7 @@ Wrote ns before after filled r = (after ≡ over_from filled ns before) × Fille
 -- so many are filled then, unless there was no room
 abbrev pub filled_then : {E : Type 0} → ℕ → Result (Unit {0}) E → Option ℕ
 filled_then n r = option_map (λ _. n) (result_ok r)
+
+-- the nodes were listed after those before, as many as there was room for
+abbrev pub Lists : {E : Type 0} → List Node → Listing → Listing → Result (Unit {0}) E → Type 0
+Lists ns before after r = Wrote ns before.nodes.now after.nodes.now before.filled (filled_then after.filled r)

@@ -1,6 +1,5 @@
 // Nodes over a caller's list, from its front on.
 ghost use Rattle.std.specs.Prelude.{◌≡◌, ◌≤◌, length, [], ◌∷◌};
-ghost use Rattle.chart.specs.Reading.{Wrote, filled_then};
 
 use chart_model::node::Node;
 
@@ -13,9 +12,11 @@ pub(crate) struct Listing<'a> {
 }
 
 impl<'a> Listing<'a> {
+    ghost use Rattle.chart.specs.Reading.{Lists};
+
     // One node more, where there is room. It writes by index, since a write through `get_mut` was not proved.
     pub(crate) fn push(&mut self, node: Node) -> Result<(), NoRoom>
-        ensures { Wrote (node ∷ []) self.old.nodes.now self.new.nodes.now self.old.filled (filled_then self.new.filled result) }
+        ensures { Lists (node ∷ []) self.old self.new result }
     {
         if self.filled == self.nodes.len() {
             return Err(NoRoom);

@@ -13,7 +13,8 @@ use weighing::Weighing;
 // How many edges a chart has room for.
 pub(crate) const ROOM: usize = 1024;
 
-// The taken places in order, whether a new edge has found none, and how many edges are finished.
+// The taken places in order, whether a new edge has found none, and how many edges are finished, which is counted along: to count
+// them anew at each step would go through all places.
 #[derive(Drop)]
 pub(crate) struct Places {
     pub(crate) slots: ArrayVec<Place, ROOM>,

@@ -4,7 +4,7 @@ ghost use Rattle.std.specs.List.{slice_get};
 ghost use Rattle.std.specs.Option.{option_to_list};
 ghost use Rattle.chart_model.specs.Reading.{rule_at, reading_at};
 ghost use Rattle.chart.specs.Charts.{held};
-ghost use Rattle.chart.specs.Reading.{own_at, Wrote, filled_then};
+ghost use Rattle.chart.specs.Reading.{own_at, Lists};
 ghost use Rattle.chart.specs.View.{Named};
 
 use crate::listing::{Listing, NoRoom};
@@ -30,7 +30,8 @@ impl<'a> FinishedAt<'a> {
         self.table.place(self.at)
     }
 
-    // The rule of an active edge. Of a passive one, which is not asked, it answers as `rule_at` does, so as to say what it says.
+    // The rule of an active edge. An origin names only active ones here, which this type does not know: so 0 for a passive one, as
+    // `rule_at` has it.
     fn rule(&self) -> u8
         ensures { result ≡ rule_at (held self.now.table.now).places self.now.at }
     {
@@ -66,7 +67,7 @@ impl<'a> FinishedAt<'a> {
 
     // Writes its own node, where there is room.
     fn write_own(&self, listing: &mut Listing<'_>) -> Result<(), NoRoom>
-        ensures { Wrote (own_at (held self.now.table.now).places self.now.at) listing.old.nodes.now listing.new.nodes.now listing.old.filled (filled_then listing.new.filled result) }
+        ensures { Lists (own_at (held self.now.table.now).places self.now.at) listing.old listing.new result }
     {
         match self.own_node() {
             Some(node) => listing.push(node),
@@ -77,7 +78,7 @@ impl<'a> FinishedAt<'a> {
     // Writes its nodes; none where there is no room for all.
     // It ends since an origin names only edges that were finished before.
     pub(crate) fn walk(&self, listing: &mut Listing<'_>) -> Result<(), NoRoom>
-        ensures { Wrote (reading_at (held self.now.table.now).places self.now.at) listing.old.nodes.now listing.new.nodes.now listing.old.filled (filled_then listing.new.filled result) }
+        ensures { Lists (reading_at (held self.now.table.now).places self.now.at) listing.old listing.new result }
     {
         let table = self.table;
         let place = self.place();

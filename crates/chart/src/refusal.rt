@@ -33,6 +33,7 @@ pub enum ReadingRefusal {
     TooShort,
 }
 
+// A case is its number. Each enum casts itself, since a cast of a type parameter is no Rust.
 impl Numbered for StepRefusal {
     ghost number = { step_number };
 

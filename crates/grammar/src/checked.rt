@@ -34,7 +34,7 @@ impl Record for RuleRecord {
 // Rules that were checked.
 pub type CheckedRules<'a> = Checked<'a, RuleRecord>;
 
-// No rules yet. It stands here, since each public function has a wrong form that is refused: one for all kinds has none.
+// No rules yet. It is no `Default` of all checked lists: its must-fail edit puts a rule in, which a body for all kinds cannot name.
 pub fn no_rules<'a>() -> CheckedRules<'a>
     ensures { result.records.now ≡ [] }
 {

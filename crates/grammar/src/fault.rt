@@ -10,6 +10,7 @@ pub enum RuleFault {
     TooLong = 5,
 }
 
+// A case is its number. Each enum casts itself, since a cast of a type parameter is no Rust.
 impl Numbered for RuleFault {
     ghost number = { rule_number };
 

@@ -20,11 +20,11 @@ word_refusal w =
 
 -- 3 for too many words, before any word is looked at; else the refusal of the first word that has one, and its place
 abbrev pub words_refusal : List Word → Option (ℕ × Option ℕ)
-words_refusal ws = list_refusal most_words 3 word_refusal ws
+words_refusal ws = list_refusal most_words too_many_words word_refusal ws
 
 -- what the check of such a list tells (`Checked`), which is said there for all kinds of records
-pub words_told : {A : Type 0} (xs : List Word) (r : Result A (ListFault WordFault)) → TellsRefusal most_words too_many_words word_number word_refusal xs r → option_map told (result_err r) ≡ words_refusal xs
-words_told xs r tells = tells
+pub check_tells_words : {A : Type 0} (xs : List Word) (r : Result A (ListFault WordFault)) → TellsRefusal most_words too_many_words word_number word_refusal xs r → option_map told (result_err r) ≡ words_refusal xs
+check_tells_words xs r tells = tells
 
 -- 4 for a typed line with more bytes than the greatest node
 abbrev pub typed_refusal : List ℕ → Option ℕ

@@ -36,7 +36,7 @@ impl Record for Word {
 // Words that were checked.
 pub type CheckedWords<'a> = Checked<'a, Word>;
 
-// No words yet. It stands here, since each public function has a wrong form that is refused: one for all kinds has none.
+// No words yet. It is no `Default` of all checked lists: its must-fail edit puts a word in, which a body for all kinds cannot name.
 pub fn no_words<'a>() -> CheckedWords<'a>
     ensures { result.records.now ≡ [] }
 {

@@ -11,6 +11,7 @@ pub enum WordFault {
     EndsTooLate = 2,
 }
 
+// A case is its number. Each enum casts itself, since a cast of a type parameter is no Rust.
 impl Numbered for WordFault {
     ghost number = { word_number };
 

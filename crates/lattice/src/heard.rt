@@ -6,7 +6,7 @@ use crate::Lattice;
 use crate::checked::CheckedWords;
 use crate::word::Word;
 
-// The checked words as they stand; the last node is the largest end.
+// The checked words as they stand; the last node is the largest end, sought once.
 #[derive(Drop)]
 pub struct HeardLattice<'a> {
     checked: CheckedWords<'a>,

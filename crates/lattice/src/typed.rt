@@ -12,7 +12,7 @@ use crate::checked::GREATEST_NODE;
 use crate::fault::TypedFault;
 use crate::word::Word;
 
-// No list of checked records: a byte keeps to nothing by itself, so the form of `Checked` would say more than is so.
+// No list of checked records: a byte alone is never refused, so `Checked` would want a fault without cases.
 // Byte n is a word from node n to the next, without doubt; the last node is the length.
 #[derive(Drop)]
 pub struct TypedLine<'a> {

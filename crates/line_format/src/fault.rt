@@ -11,6 +11,7 @@ pub enum FormFault {
     NotOfTheForm = 13,
 }
 
+// A case is its number. Each enum casts itself, since a cast of a type parameter is no Rust.
 impl Numbered for FormFault {
     ghost number = { form_number };
 

@@ -14,6 +14,7 @@ where
     ensures { IfSome (R.remaining input) (λ bytes. IfOk result (λ text. text.items ≡ take enough bytes)) }
 {
     let mut text = ArrayVec::new();
+    // The limit is a constant; no `From` goes from one width to the other.
     io::copy(&mut input.take(ENOUGH_BYTES as u64), &mut text)?;
     Ok(text)
 }

@@ -3,7 +3,7 @@ ghost use Rattle.std.specs.Prelude.{◌≡◌, ℕ};
 
 use std::fmt;
 
-// A refusal means its number.
+// A refusal means its number. An enum of plain cases casts itself to it, in a body of its own: a cast of a type parameter is no Rust.
 pub trait Numbered: Copy {
     ghost number: { Self → ℕ };
 

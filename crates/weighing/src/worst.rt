@@ -8,7 +8,7 @@ use crate::Weighing;
 #[derive(Clone, Copy, PartialEq, Eq, Debug, Default)]
 pub struct Worst;
 
-// Its marks and its order are those of `Sum`. Each weighing states its own equations, so that none passes for another.
+// Its marks and its order are those of `Sum`. A provided method could not state these equations, since a trait's clause knows of `weights` only.
 impl Weighing for Worst {
     ghost weights = { λ _. worst_weights };
 
