@@ -31,6 +31,10 @@ abbrev pub brought : (ℕ → Option Arrival) → ℕ → ℕ → List Arrival
 brought brings n zero = []
 brought brings n (suc count) = option_to_list (brings n) ++ brought brings (suc n) count
 
+-- these have arrived at a table, in order, and nothing else has changed
+abbrev pub Arrived : Weights → Table → List Arrival → Table → Type 0
+Arrived ws before arrivals after = held after ≡ arrive_all room ws.lighter (held before) arrivals
+
 -- after some arrivals at it, one chart has become the other
 abbrev pub Later : (ℕ → ℕ → Bool) → Chart → Chart → Type 0
 Later lighter c d = (as' : List Arrival) × (d ≡ arrive_all room lighter c as')

@@ -4,7 +4,7 @@ ghost use Rattle.std.specs.Borrow.{Bor};
 ghost use Rattle.chart_model.specs.Plain.{arrive_all};
 ghost use Rattle.chart_model.specs.declared.place.Arrival.{Arrival};
 ghost use Rattle.chart.specs.declared.table.Table.{Table};
-ghost use Rattle.chart.specs.Bringing.{brought, AnyBrought, NamesFinished};
+ghost use Rattle.chart.specs.Bringing.{brought, AnyBrought, NamesFinished, Arrived};
 ghost use Rattle.chart.specs.Charts.{held};
 ghost use Rattle.chart.specs.View.{room};
 
@@ -25,7 +25,7 @@ impl<G: Grammar, L: Lattice, W: Weighing> Setting<G, L, W> {
     )
         requires callable { (t : Bor Table) (n : ℕ) → n < count → F.pre brings t n }
         requires named { AnyBrought (F.post brings) (W.weights self.now.weighing).lighter (held table.old) count (λ c n r. NamesFinished c r) }
-        ensures { (f : ℕ → Option Arrival) → AnyBrought (F.post brings) (W.weights self.now.weighing).lighter (held table.old) count (λ c n r. r ≡ f n) → held table.new ≡ arrive_all room (W.weights self.now.weighing).lighter (held table.old) (brought f 0 count) }
+        ensures { (f : ℕ → Option Arrival) → AnyBrought (F.post brings) (W.weights self.now.weighing).lighter (held table.old) count (λ c n r. r ≡ f n) → Arrived (W.weights self.now.weighing) table.old (brought f 0 count) table.new }
     {
         for n in 0..count {
             if let Some(arrival) = brings(table, n) {

@@ -1,7 +1,7 @@
 // What arrives at a table when a chart is opened: words and empty rules.
 ghost use Rattle.std.specs.Prelude.{◌≡◌, suc};
 ghost use Rattle.chart_model.specs.Plain.{arrive_all, gathered, word_brings, empty_brings, nodes_bring};
-ghost use Rattle.chart.specs.Bringing.{brought_by};
+ghost use Rattle.chart.specs.Bringing.{brought_by, Arrived};
 ghost use Rattle.chart.specs.Charts.{held};
 ghost use Rattle.chart.specs.View.{room};
 
@@ -55,14 +55,14 @@ impl<G: Grammar, L: Lattice, W: Weighing> Setting<G, L, W> {
 
     // The words arrive, in order. Each number of a word or a rule fits 8 bits, so its cast is plainer than a test that cannot fail.
     pub(crate) fn word_arrivals(&self, table: &mut Table)
-        ensures { held table.new ≡ arrive_all room (W.weights self.now.weighing).lighter (held table.old) (gathered (word_brings (W.weights self.now.weighing)) 0 (L.words self.now.lattice)) }
+        ensures { Arrived (W.weights self.now.weighing) table.old (gathered (word_brings (W.weights self.now.weighing)) 0 (L.words self.now.lattice)) table.new }
     {
         self.bring_each(table, self.lattice.len(), |_, n| self.word(n as u8));
     }
 
     // The rules without right symbols arrive at a node, in order.
     fn empty_arrivals(&self, table: &mut Table, node: u8)
-        ensures { held table.new ≡ arrive_all room (W.weights self.now.weighing).lighter (held table.old) (gathered (empty_brings (W.weights self.now.weighing) node) 0 (G.rules self.now.grammar)) }
+        ensures { Arrived (W.weights self.now.weighing) table.old (gathered (empty_brings (W.weights self.now.weighing) node) 0 (G.rules self.now.grammar)) table.new }
     {
         self.bring_each(
             table,
@@ -73,7 +73,7 @@ impl<G: Grammar, L: Lattice, W: Weighing> Setting<G, L, W> {
 
     // They arrive at every node up to the last.
     pub(crate) fn node_arrivals(&self, table: &mut Table)
-        ensures { held table.new ≡ arrive_all room (W.weights self.now.weighing).lighter (held table.old) (nodes_bring (W.weights self.now.weighing) (G.rules self.now.grammar) 0 (suc (L.last self.now.lattice))) }
+        ensures { Arrived (W.weights self.now.weighing) table.old (nodes_bring (W.weights self.now.weighing) (G.rules self.now.grammar) 0 (suc (L.last self.now.lattice))) table.new }
     {
         for node in 0..=self.lattice.last_node() {
             self.empty_arrivals(table, node);

@@ -1,7 +1,7 @@
 // Steps of a table: an edge is finished, and what follows from it arrives.
 ghost use Rattle.std.specs.Prelude.{◌≡◌};
 ghost use Rattle.chart_model.specs.Plain.{arrive_all, gathered, rule_brings, place_brings, arrivals, step, step_answer, settled};
-ghost use Rattle.chart.specs.Bringing.{brought_by, NamesFinished};
+ghost use Rattle.chart.specs.Bringing.{brought_by, NamesFinished, Arrived};
 ghost use Rattle.chart.specs.View.{room, Named};
 ghost use Rattle.chart.specs.Charts.{task_of, held};
 ghost use Rattle.chart.specs.Refusals.{step_number, told};
@@ -38,7 +38,7 @@ impl<G: Grammar, L: Lattice, W: Weighing> Setting<G, L, W> {
     // All that follows from the finished edge arrives: by the rules in order, and then by the places in order.
     fn spread(&self, table: &mut Table, finished: Standing)
         requires { Named (held table.old) finished.at }
-        ensures { held table.new ≡ arrive_all room (W.weights self.now.weighing).lighter (held table.old) (arrivals (task_of G.rules L.last L.words W.weights self.now) finished (held table.old).places) }
+        ensures { Arrived (W.weights self.now.weighing) table.old (arrivals (task_of G.rules L.last L.words W.weights self.now) finished (held table.old).places) table.new }
     {
         // The number of a rule fits 8 bits, so its cast is plainer than a test that cannot fail.
         self.bring_each(
