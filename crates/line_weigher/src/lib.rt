@@ -13,6 +13,7 @@ ghost use Rattle.line_weigher.specs.Line.{line_weight, text_weight, LineSays, Te
 pub mod refusal;
 #[cfg(test)]
 mod tests;
+pub mod weight;
 
 use chart::phrase::Phrase;
 use chart::refusal::SettledRefusal;

@@ -1,4 +1,4 @@
-// Refusals that have numbers, and how they are told.
+// Refusals that have numbers, and how an answer is told.
 ghost use Rattle.std.specs.Prelude.{◌≡◌, ℕ};
 
 use std::fmt;
@@ -12,17 +12,20 @@ pub trait Numbered: Copy {
         ensures { result ≡ number self };
 }
 
-// A refusal as a program tells it, by its number.
-#[derive(Clone, Copy)]
-pub struct Refused<N>(pub N);
+// An answer as a program tells it: what it is, or that it is refused, by the number.
+#[derive(Drop)]
+pub struct Told<T, N>(pub Result<T, N>);
 
-impl<N: Numbered> fmt::Display for Refused<N> {
-    ghost use Rattle.std.specs.Prelude.{Some};
+impl<T: fmt::Display, N: Numbered> fmt::Display for Told<T, N> {
+    ghost use Rattle.std.specs.Prelude.{Some, Ok, Err};
     ghost use Rattle.records.specs.Telling.{refused_text};
 
-    ghost output = { λ refused. Some (refused_text (N.number refused.0)) };
+    ghost output = { λ told. elim told.0 [ Ok answer ↦ T.output answer | Err refusal ↦ Some (refused_text (N.number refusal)) ] };
 
     fn fmt<W: fmt::Write>(&self, f: &mut fmt::Formatter<W>) -> fmt::Result {
-        write!(f, "refused {}", self.0.number())
+        match &self.0 {
+            Ok(answer) => answer.fmt(f),
+            Err(refusal) => write!(f, "refused {}", refusal.number()),
+        }
     }
 }
