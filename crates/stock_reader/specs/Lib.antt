@@ -1,3 +1,3 @@
 pub mod Refusals
-pub mod Understanding
+pub mod Line
 pub mod Printing

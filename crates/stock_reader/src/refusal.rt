@@ -1,8 +1,9 @@
-// Why the program refuses a text: its form, or its words.
+// Why a text has no weight: its form, its words, or its derivations.
 ghost use Rattle.std.specs.Prelude.{◌≡◌};
-ghost use Rattle.stock_reader.specs.declared.refusal.Refusal.TheVariants.{Form, Lattice};
+ghost use Rattle.stock_reader.specs.declared.refusal.Refusal.TheVariants.{Form, Lattice, Chart};
 ghost use Rattle.stock_reader.specs.Refusals.{refusal_number};
 
+use chart::refusal::SettledRefusal;
 use lattice::fault::LatticeFault;
 use line_format::fault::FormFault;
 use records::numbered::Numbered;
@@ -11,6 +12,7 @@ use records::numbered::Numbered;
 pub enum Refusal {
     Form(FormFault),
     Lattice(LatticeFault),
+    Chart(SettledRefusal),
 }
 
 impl Numbered for Refusal {
@@ -20,6 +22,7 @@ impl Numbered for Refusal {
         match self {
             Refusal::Form(fault) => fault.number(),
             Refusal::Lattice(fault) => fault.number(),
+            Refusal::Chart(refusal) => refusal.number(),
         }
     }
 }
@@ -37,5 +40,13 @@ impl From<LatticeFault> for Refusal {
 
     fn from(fault: LatticeFault) -> Refusal {
         Refusal::Lattice(fault)
+    }
+}
+
+impl From<SettledRefusal> for Refusal {
+    ghost from_gives = { λ refusal r. r ≡ Chart refusal };
+
+    fn from(refusal: SettledRefusal) -> Refusal {
+        Refusal::Chart(refusal)
     }
 }

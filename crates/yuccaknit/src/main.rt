@@ -1,12 +1,13 @@
-// Reads heard words from standard input, and tells what it has understood.
+// Reads heard words from standard input, and tells the weight of the lightest line that they make.
 #![tactic(auto)]
 
 use line_format::input::read_text;
 use records::numbered::Told;
 use std::io;
-use stock_reader::understand;
+use stock_reader::weigh_text;
+use stock_reader::weight::Weight;
 
 fn main(rt: HostRuntime) -> io::Result<()> {
     let text = read_text(rt.stdin())?;
-    println!(rt; "{}", Told(understand(&text)))
+    println!(rt; "{}", Told(weigh_text(&text).map(Weight)))
 }

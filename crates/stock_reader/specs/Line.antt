@@ -1,10 +1,11 @@
 -- What the line of a text weighs, or the number of its refusal: first its form, then its words, then its derivations. Assumes nothing.
-use Rattle.std.specs.Prelude.{ℕ, List, Ok, Err, Result}
+use Rattle.std.specs.Prelude.{ℕ, List, Some, None, Ok, Err, Result}
 use Rattle.weighing.specs.Weighings.{sum_weights}
 use Rattle.grammar.specs.Count.{line, count_rules}
 use Rattle.lattice.specs.declared.word.Word.{Word}
+use Rattle.lattice.specs.Checking.{words_refusal}
 use Rattle.lattice.specs.Heard.{largest_end}
-use Rattle.stock_reader.specs.Understanding.{words_told, text_told}
+use Rattle.line_format.specs.Lines.{text_words}
 use Rattle.chart_model.specs.Task.{Task}
 use Rattle.chart_model.specs.Derivation.{Derives}
 use Rattle.chart_model.specs.Plain.{opened, settled, settled_answer}
@@ -14,8 +15,16 @@ use Rattle.chart_model.specs.declared.edge.Edge.TheVariants.{Passive}
 use Rattle.chart.specs.View.{room}
 use Rattle.chart.specs.declared.refusal.SettledRefusal.{SettledRefusal}
 use Rattle.chart.specs.declared.refusal.SettledRefusal.TheVariants.{NoStretch, NoDerivation, Full}
-use Rattle.line_weigher.specs.declared.refusal.Refusal.{Refusal}
-use Rattle.line_weigher.specs.declared.refusal.Refusal.TheVariants.{Text, Chart}
+use Rattle.stock_reader.specs.declared.refusal.Refusal.{Refusal}
+use Rattle.stock_reader.specs.declared.refusal.Refusal.TheVariants.{Form, Lattice, Chart}
+
+-- what is told of words that make a lattice, or the number of their refusal
+abbrev pub words_told : {A : Type 0} → (List Word → Result A ℕ) → List Word → Result A ℕ
+words_told {A} tell ws = elim (words_refusal ws) as (λ _. Result A ℕ) [ None ↦ tell ws | Some refusal ↦ Err refusal.0 ]
+
+-- the same of the words that a text writes; what is not of the form is refused first
+abbrev pub text_told : {A : Type 0} → (List Word → Result A ℕ) → List ℕ → Result A ℕ
+text_told {A} tell text = elim (text_words text) as (λ _. Result A ℕ) [ Ok ws ↦ words_told tell ws | Err number ↦ Err number ]
 
 -- heard words, read as stock counts, with doubts added up
 abbrev pub line_task : List Word → Task
@@ -48,4 +57,5 @@ LineSays ws (Err NoStretch) = ⊥
 abbrev pub TextSays : List Word → Result ℕ Refusal → Type 0
 TextSays ws (Ok w) = LineSays ws (Ok w)
 TextSays ws (Err (Chart refusal)) = LineSays ws (Err refusal)
-TextSays ws (Err (Text refusal)) = ⊥
+TextSays ws (Err (Form fault)) = ⊥
+TextSays ws (Err (Lattice fault)) = ⊥

@@ -7,7 +7,7 @@ pub struct Weight(pub u64);
 // One line without its line feed.
 impl fmt::Display for Weight {
     ghost use Rattle.std.specs.Prelude.{Some};
-    ghost use Rattle.line_weigher.specs.Printing.{weight_text};
+    ghost use Rattle.stock_reader.specs.Printing.{weight_text};
 
     ghost output = { λ weight. Some (weight_text weight) };
 

@@ -3,9 +3,9 @@ use Rattle.grammar.specs.Count.{line}
 use Rattle.chart_model.specs.Plain.{opened, settled}
 use Rattle.chart.specs.Saying.{SettledSays}
 use Rattle.chart.specs.View.{room}
-use Rattle.line_weigher.specs.Line.{line_task}
-use Rattle.line_weigher.proofs.Line.{line_says}
-use Rattle.line_weigher.proofs.weigh_line.Goals as goal
+use Rattle.stock_reader.specs.Line.{line_task}
+use Rattle.stock_reader.proofs.Line.{line_says}
+use Rattle.stock_reader.proofs.weigh_line.Goals as goal
 
 pub returns-clause-says : goal.returns-clause-says
 returns-clause-says c =
