@@ -1,7 +1,7 @@
 #!/usr/bin/env python3
 """Runs the program on random texts, and compares what it prints with an independent model.
 
-Usage: tools/fuzz/fuzz.py [HOW MANY] [SEED]   (from the repository's root, after `rt run` in crates/tell_weight)
+Usage: tools/fuzz/fuzz.py [HOW MANY] [SEED]   (from the repository's root, after `rt run` in crates/yuccaknit)
 """
 import random
 import subprocess
@@ -10,7 +10,7 @@ from collections import Counter
 
 import model
 
-PROGRAM = "crates/tell_weight/out/tell_weight"
+PROGRAM = "crates/yuccaknit/out/yuccaknit"
 SPOKEN = [model.ONE, model.TWO, model.THREE, model.BOX, model.OPEN, model.UM]
 
 
@@ -111,7 +111,7 @@ def main():
     count = int(sys.argv[1]) if len(sys.argv) > 1 else 2000
     seed = int(sys.argv[2]) if len(sys.argv) > 2 else 1
     rng = random.Random(seed)
-    kinds, differences, second = Counter(), 0, 0
+    kinds, differences, second, full = Counter(), 0, 0, 0
     for turn in range(count):
         text = random_text(rng)
         expected, chart = model.answer(text)
@@ -120,6 +120,7 @@ def main():
         if printed != expected:
             differences += 1
             print(f"turn {turn}: the program printed {printed!r}, the model {expected!r}, for {text!r}")
+        full += chart is not None and chart.full
         if chart is not None and not chart.full and len(chart.edges) < 300:
             best = model.lightest(model.STOCK_COUNTS, model.words_of(text))
             finished = {edge: chart.weights[at] for at, edge in enumerate(chart.edges) if chart.done[at]}
@@ -127,7 +128,7 @@ def main():
             if best != finished:
                 differences += 1
                 print(f"turn {turn}: the model's chart is not what going round gives, for {text!r}")
-    print(f"{count} texts, {differences} differences; " + ", ".join(f"{kind}: {n}" for kind, n in sorted(kinds.items())) + f"; second opinions: {second}")
+    print(f"{count} texts, {differences} differences; " + ", ".join(f"{kind}: {n}" for kind, n in sorted(kinds.items())) + f"; full charts: {full}; second opinions: {second}")
     return 1 if differences else 0
 
 
