@@ -17,3 +17,4 @@ pub mod Turns
 pub mod Runs
 pub mod Overlay
 pub mod Walking
+pub mod Readings

@@ -9,7 +9,7 @@ use Rattle.lattice.specs.Words as lattice
 use Rattle.lattice.specs.declared.word.Word.{Word}
 use Rattle.chart_model.specs.Task.{Task, Sound}
 use Rattle.chart_model.specs.Plain.{Chart, blank, first_arrivals, arrive_all, gathered, word_brings, nodes_bring, opened, step, steps, stopped, settled}
-use Rattle.chart_model.specs.Stands.{Stands, Settled, after}
+use Rattle.chart_model.specs.Stands.{Stands, Settled, Reached, after}
 use Rattle.chart_model.proofs.Arriving.{arrive_all_count}
 use Rattle.chart_model.proofs.Law.{law_of_the_lightest}
 use Rattle.chart.specs.declared.setting.Setting.{Setting}
@@ -86,10 +86,16 @@ module _ {t : Task} (s : Sound t) where
   pub opening_stands : (c : Chart) → ∥ FromOpening t c ∥₁ → Stands t c
   opening_stands c from = stands_after c c.finished (reached t c from)
 
+  -- settling is steps
+  settling_counted : (c : Chart) → ∥ FromSettling t c ∥₁ → c ≡ after t room c.finished
+  settling_counted c from = reached t c (∥∥₁_map from (λ (n, h). (n + room, h ∙ steps_more t n room (opened t room))))
+
+  pub settling_reached : (c : Chart) → ∥ FromSettling t c ∥₁ → Reached t c
+  settling_reached c from = let law = law_of_the_lightest t s in subst (Reached t) (sym (settling_counted c from)) (law.reached room c.finished)
+
   pub settling_rests : (c : Chart) → ∥ FromSettling t c ∥₁ → Stands t c × Settled t room c
   settling_rests c from =
       let law = law_of_the_lightest t s in
-      let opening : ∥ FromOpening t c ∥₁ = ∥∥₁_map from (λ (n, h). (n + room, h ∙ steps_more t n room (opened t room))) in
-      let here = reached t c opening in
+      let here = settling_counted c from in
       let quiet : stopped t c ≡ true = ∥∥₁_elim from (bool_set (stopped t c) true) (λ (n, h). subst (λ d. stopped t d ≡ true) (sym h) (law.ends room n)) in
       (stands_after c c.finished here, subst (Settled t room) (sym here) (law.is_settled room c.finished (subst (λ d. stopped t d ≡ true) here quiet)))

@@ -36,3 +36,7 @@ filled_then n r = option_map (λ _. n) (result_ok r)
 -- the nodes were listed after those before, as many as there was room for
 abbrev pub Lists : {E : Type 0} → List Node → Listing → Listing → Result (Unit {0}) E → Type 0
 Lists ns before after r = Wrote ns before.nodes.now after.nodes.now before.filled (filled_then after.filled r)
+
+-- it is still the same list of the caller's
+abbrev pub SameList : Listing → Listing → Type 0
+SameList before after = after.nodes.ghost_name ≡ before.nodes.ghost_name

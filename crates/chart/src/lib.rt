@@ -9,6 +9,7 @@ mod opening;
 pub mod outcome;
 pub mod phrase;
 mod places;
+pub mod read;
 mod reading;
 pub mod refusal;
 pub mod run;
@@ -16,5 +17,7 @@ pub mod setting;
 pub mod settled;
 mod stepping;
 mod table;
+#[cfg(test)]
+mod tests;
 pub mod weigh;
 pub mod working;

@@ -12,11 +12,12 @@ pub(crate) struct Listing<'a> {
 }
 
 impl<'a> Listing<'a> {
-    ghost use Rattle.chart.specs.Reading.{Lists};
+    ghost use Rattle.chart.specs.Reading.{Lists, SameList};
 
     // One node more, where there is room. It writes by index, since a write through `get_mut` was not proved.
     pub(crate) fn push(&mut self, node: Node) -> Result<(), NoRoom>
-        ensures { Lists (node ∷ []) self.old self.new result }
+        ensures lists { Lists (node ∷ []) self.old self.new result }
+        ensures same { SameList self.old self.new }
     {
         if self.filled == self.nodes.len() {
             return Err(NoRoom);

@@ -4,7 +4,7 @@ ghost use Rattle.std.specs.List.{slice_get};
 ghost use Rattle.std.specs.Option.{option_to_list};
 ghost use Rattle.chart_model.specs.Reading.{rule_at, reading_at};
 ghost use Rattle.chart.specs.Charts.{held};
-ghost use Rattle.chart.specs.Reading.{own_at, Lists};
+ghost use Rattle.chart.specs.Reading.{own_at, Lists, SameList};
 ghost use Rattle.chart.specs.View.{Named};
 
 use crate::listing::{Listing, NoRoom};
@@ -67,7 +67,8 @@ impl<'a> FinishedAt<'a> {
 
     // Writes its own node, where there is room.
     fn write_own(&self, listing: &mut Listing<'_>) -> Result<(), NoRoom>
-        ensures { Lists (own_at (held self.now.table.now).places self.now.at) listing.old listing.new result }
+        ensures lists { Lists (own_at (held self.now.table.now).places self.now.at) listing.old listing.new result }
+        ensures same { SameList listing.old listing.new }
     {
         match self.own_node() {
             Some(node) => listing.push(node),
@@ -75,10 +76,11 @@ impl<'a> FinishedAt<'a> {
         }
     }
 
-    // Writes its nodes; none where there is no room for all.
+    // Writes its nodes, as many as there is room for.
     // It ends since an origin names only edges that were finished before.
     pub(crate) fn walk(&self, listing: &mut Listing<'_>) -> Result<(), NoRoom>
-        ensures { Lists (reading_at (held self.now.table.now).places self.now.at) listing.old listing.new result }
+        ensures lists { Lists (reading_at (held self.now.table.now).places self.now.at) listing.old listing.new result }
+        ensures same { SameList listing.old listing.new }
     {
         let table = self.table;
         let place = self.place();

@@ -1,7 +1,9 @@
 // Why a chart refuses, each reason with its number.
 ghost use Rattle.std.specs.Prelude.{◌≡◌};
+ghost use Rattle.chart.specs.declared.refusal.ReadingRefusal.TheVariants.{TooShort};
 ghost use Rattle.chart.specs.Refusals.{step_number, question_number, settled_number, reading_number, as_reading};
 
+use crate::listing::NoRoom;
 use records::numbered::Numbered;
 
 // A step is refused by a full chart, and where nothing is open.
@@ -74,5 +76,13 @@ impl From<SettledRefusal> for ReadingRefusal {
 
     fn from(refusal: SettledRefusal) -> ReadingRefusal {
         ReadingRefusal::Unanswered(refusal)
+    }
+}
+
+impl From<NoRoom> for ReadingRefusal {
+    ghost from_gives = { λ _ r. r ≡ TooShort };
+
+    fn from(_: NoRoom) -> ReadingRefusal {
+        ReadingRefusal::TooShort
     }
 }

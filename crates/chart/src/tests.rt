@@ -1,0 +1,206 @@
+// Readings: a loop, empties, lists that are too short, and refusals.
+use crate::phrase::Phrase;
+use crate::read::{Listed, read};
+use crate::refusal::{ReadingRefusal, SettledRefusal};
+use crate::setting::Setting;
+use crate::working::WorkingChart;
+use chart_model::node::{Kind, Node};
+use grammar::checked::CheckedRules;
+use grammar::count::{CountGrammar, LINE};
+use grammar::list::RuleList;
+use grammar::rule::RuleRecord;
+use lattice::checked::CheckedWords;
+use lattice::heard::HeardLattice;
+use lattice::typed::TypedLine;
+use lattice::word::Word;
+use std::test::Fail;
+use weighing::sum::Sum;
+
+fn node(kind: Kind, number: u8, from: u8, to: u8) -> Node {
+    Node {
+        kind,
+        number,
+        from,
+        to,
+    }
+}
+
+fn word(from: u8, to: u8, symbol: u8, mark: u16) -> Word {
+    Word {
+        from,
+        to,
+        symbol,
+        mark,
+    }
+}
+
+fn rule(left: u8, length: u8, symbol: u8, mark: u16) -> RuleRecord {
+    RuleRecord {
+        left,
+        length,
+        symbols: [symbol; 4],
+        mark,
+    }
+}
+
+const UNUSED: Node = Node {
+    kind: Kind::Word,
+    number: 99,
+    from: 98,
+    to: 97,
+};
+
+fn two_boxes() -> [Word; 4] {
+    [
+        word(0, 1, 17, 10),
+        word(1, 2, 19, 20),
+        word(2, 3, 20, 30),
+        word(3, 4, 16, 40),
+    ]
+}
+
+// The reading of "two box, open one".
+fn two_boxes_read() -> [Node; 11] {
+    [
+        node(Kind::Rule, 1, 0, 4),
+        node(Kind::Rule, 0, 0, 2),
+        node(Kind::Rule, 2, 0, 2),
+        node(Kind::Rule, 7, 0, 1),
+        node(Kind::Word, 0, 0, 1),
+        node(Kind::Word, 1, 1, 2),
+        node(Kind::Rule, 9, 2, 2),
+        node(Kind::Rule, 3, 2, 4),
+        node(Kind::Word, 2, 2, 3),
+        node(Kind::Rule, 6, 3, 4),
+        node(Kind::Word, 3, 3, 4),
+    ]
+}
+
+fn read_line(words: &[Word], nodes: &mut [Node]) -> Result<Listed, ReadingRefusal> {
+    let Ok(checked) = CheckedWords::new(words) else {
+        return Err(ReadingRefusal::TooShort);
+    };
+    let lattice = HeardLattice::new(checked);
+    let setting = Setting {
+        grammar: CountGrammar,
+        lattice,
+        weighing: Sum,
+    };
+    let line = Phrase {
+        symbol: LINE,
+        from: 0,
+        to: 4,
+    };
+    read(setting, line, nodes)
+}
+
+#[test]
+fn exact_room(rt: HostRuntime) {
+    let mut nodes = [UNUSED; 11];
+    let listed = Listed {
+        weight: 109,
+        nodes: 11,
+    };
+    assert_eq!(rt; read_line(&two_boxes(), &mut nodes), Ok(listed));
+    assert_eq!(rt; nodes, two_boxes_read());
+}
+
+#[test]
+fn more_room(rt: HostRuntime) {
+    let mut nodes = [UNUSED; 13];
+    let listed = Listed {
+        weight: 109,
+        nodes: 11,
+    };
+    assert_eq!(rt; read_line(&two_boxes(), &mut nodes), Ok(listed));
+    assert_eq!(rt; nodes[..11], two_boxes_read()[..]);
+    assert_eq!(rt; nodes[11..], [UNUSED; 2][..], "the rest of the list stays");
+}
+
+#[test]
+fn one_node_short(rt: HostRuntime) {
+    let mut nodes = [UNUSED; 10];
+    assert_eq!(rt; read_line(&two_boxes(), &mut nodes), Err(ReadingRefusal::TooShort));
+    assert_eq!(rt; nodes[..], two_boxes_read()[..10]);
+    assert_eq!(rt; read_line(&two_boxes(), &mut []), Err(ReadingRefusal::TooShort));
+}
+
+#[test]
+fn no_such_line(rt: HostRuntime) {
+    let mut nodes = [UNUSED; 2];
+    let none = ReadingRefusal::Unanswered(SettledRefusal::NoDerivation);
+    let outside = ReadingRefusal::Unanswered(SettledRefusal::NoStretch);
+    assert_eq!(rt; read_line(&[word(0, 4, 19, 1)], &mut nodes), Err(none));
+    assert_eq!(rt; read_line(&two_boxes()[..3], &mut nodes), Err(outside));
+    assert_eq!(rt; nodes, [UNUSED; 2], "a refusal leaves the list");
+}
+
+#[test]
+fn symbol_of_itself(rt: HostRuntime) -> Result<(), Fail> {
+    let rules = [rule(5, 1, 5, 0), rule(5, 1, 9, 7)];
+    let words = [word(0, 1, 9, 5)];
+    let setting = Setting {
+        grammar: RuleList::new(CheckedRules::new(&rules)?),
+        lattice: HeardLattice::new(CheckedWords::new(&words)?),
+        weighing: Sum,
+    };
+    let mut nodes = [UNUSED; 3];
+    let five = Phrase {
+        symbol: 5,
+        from: 0,
+        to: 1,
+    };
+    let listed = Listed {
+        weight: 12,
+        nodes: 2,
+    };
+    assert_eq!(rt; read(setting, five, &mut nodes), Ok(listed));
+    assert_eq!(rt; nodes, [node(Kind::Rule, 1, 0, 1), node(Kind::Word, 0, 0, 1), UNUSED]);
+    Ok(())
+}
+
+#[test]
+fn empties(rt: HostRuntime) -> Result<(), Fail> {
+    let rules = [rule(5, 2, 6, 1), rule(6, 0, 0, 2)];
+    let setting = Setting {
+        grammar: RuleList::new(CheckedRules::new(&rules)?),
+        lattice: TypedLine::empty(),
+        weighing: Sum,
+    };
+    let chart = WorkingChart::open(setting).settle();
+    let mut nodes = [UNUSED; 3];
+    let five = Phrase {
+        symbol: 5,
+        from: 0,
+        to: 0,
+    };
+    assert_eq!(rt; chart.question(five), Ok(5));
+    assert_eq!(rt; chart.reading(five, &mut nodes), Ok(3));
+    assert_eq!(rt; nodes, [node(Kind::Rule, 0, 0, 0), node(Kind::Rule, 1, 0, 0), node(Kind::Rule, 1, 0, 0)]);
+    Ok(())
+}
+
+// Symbol n is symbol n - 1 twice, down to a symbol that is empty: a reading of symbol 60 has more nodes than 60 bits count.
+#[test]
+fn more_nodes_than_can_be_counted(rt: HostRuntime) -> Result<(), Fail> {
+    let mut rules = [rule(0, 0, 0, 0); 61];
+    for (n, rule) in rules.iter_mut().enumerate().skip(1) {
+        rule.left = n as u8;
+        rule.length = 2;
+        rule.symbols = [(n - 1) as u8; 4];
+    }
+    let setting = Setting {
+        grammar: RuleList::new(CheckedRules::new(&rules)?),
+        lattice: TypedLine::empty(),
+        weighing: Sum,
+    };
+    let mut nodes = [UNUSED; 3];
+    let sixty = Phrase {
+        symbol: 60,
+        from: 0,
+        to: 0,
+    };
+    assert_eq!(rt; read(setting, sixty, &mut nodes), Err(ReadingRefusal::TooShort));
+    assert_eq!(rt; nodes, [node(Kind::Rule, 60, 0, 0), node(Kind::Rule, 59, 0, 0), node(Kind::Rule, 58, 0, 0)]);
+    Ok(())
+}
