@@ -6,5 +6,6 @@ pub mod Standings
 pub mod Stands
 pub mod Origins
 pub mod Reading
+pub mod Telling
 pub mod Worked
 pub mod WorkedReadings
