@@ -1,5 +1,5 @@
--- What the line of a text weighs, or the number of its refusal: first its form, then its words, then its derivations. Assumes nothing.
-use Rattle.std.specs.Prelude.{ℕ, List, Some, None, Ok, Err, Result}
+-- What the line of a text is read as, or the number of its refusal: first its form, then its words, then its derivations. Assumes nothing.
+use Rattle.std.specs.Prelude.{◌≡◌, ℕ, ◌<◌, true, false, List, length, Some, None, Ok, Err, Result, nat_le}
 use Rattle.weighing.specs.Weighings.{sum_weights}
 use Rattle.grammar.specs.Count.{line, count_rules}
 use Rattle.lattice.specs.declared.word.Word.{Word}
@@ -7,14 +7,19 @@ use Rattle.lattice.specs.Checking.{words_refusal}
 use Rattle.lattice.specs.Heard.{largest_end}
 use Rattle.line_format.specs.Lines.{text_words}
 use Rattle.chart_model.specs.Task.{Task}
-use Rattle.chart_model.specs.Derivation.{Derives}
-use Rattle.chart_model.specs.Plain.{opened, settled, settled_answer}
-use Rattle.chart_model.specs.Stands.{Weighs, NoneLighter, Over}
+use Rattle.chart_model.specs.Derivation.{Tree, tree_weight, Derives}
+use Rattle.chart_model.specs.Listing.{tree_nodes}
+use Rattle.chart_model.specs.Plain.{Chart as PlainChart, opened, settled, settled_answer}
+use Rattle.chart_model.specs.Reading.{reading}
+use Rattle.chart_model.specs.Stands.{Unfinished, NoneLighter, Over}
 use Rattle.chart_model.specs.declared.edge.Edge.{Edge}
 use Rattle.chart_model.specs.declared.edge.Edge.TheVariants.{Passive}
+use Rattle.chart_model.specs.declared.node.Node.{Node}
 use Rattle.chart.specs.View.{room}
-use Rattle.chart.specs.declared.refusal.SettledRefusal.{SettledRefusal}
 use Rattle.chart.specs.declared.refusal.SettledRefusal.TheVariants.{NoStretch, NoDerivation, Full}
+use Rattle.chart.specs.declared.refusal.ReadingRefusal.{ReadingRefusal}
+use Rattle.chart.specs.declared.refusal.ReadingRefusal.TheVariants.{Unanswered, TooShort}
+use Rattle.stock_reader.specs.declared.reading.Reading.{Reading}
 use Rattle.stock_reader.specs.declared.refusal.Refusal.{Refusal}
 use Rattle.stock_reader.specs.declared.refusal.Refusal.TheVariants.{Form, Lattice, Chart}
 
@@ -34,28 +39,54 @@ line_task ws = record { rules = count_rules; last = largest_end ws; words = ws; 
 abbrev pub whole_line : List Word → Edge
 whole_line ws = Passive line 0 (largest_end ws)
 
--- what a settled chart answers about the line
-abbrev pub line_weight : List Word → Result ℕ ℕ
-line_weight ws = settled_answer (line_task ws) (settled (line_task ws) room (opened (line_task ws) room)) line 0 (largest_end ws)
+-- the chart of these words, settled
+abbrev pub line_chart : List Word → PlainChart
+line_chart ws = settled (line_task ws) room (opened (line_task ws) room)
+
+-- how many nodes a reading has room for
+abbrev pub most_nodes : ℕ
+most_nodes = 256
+
+-- a weight, and the nodes that have it
+abbrev pub Told : Type 0
+Told = ℕ × List Node
+
+abbrev pub told_reading : Reading → Told
+told_reading r = (r.weight, r.nodes.items)
+
+-- nodes as they are told beside their weight; 12 where there is no room for them
+abbrev pub fitting : ℕ → List Node → Result Told ℕ
+fitting w ns = elim (nat_le (length ns) most_nodes) [ true ↦ Ok (w, ns) | false ↦ Err 12 ]
+
+-- what a settled chart reads of the line
+abbrev pub line_reading : List Word → Result Told ℕ
+line_reading ws =
+    elim (settled_answer (line_task ws) (line_chart ws) line 0 (largest_end ws)) [
+      | Ok w ↦ fitting w (reading (line_chart ws).places (whole_line ws))
+      | Err number ↦ Err number
+    ]
 
 -- words that make no lattice are refused
-abbrev pub words_weight : List Word → Result ℕ ℕ
-words_weight ws = words_told line_weight ws
+abbrev pub words_reading : List Word → Result Told ℕ
+words_reading ws = words_told line_reading ws
 
 -- and so is what is not of the form
-abbrev pub text_weight : List ℕ → Result ℕ ℕ
-text_weight text = text_told line_weight text
+abbrev pub text_reading : List ℕ → Result Told ℕ
+text_reading text = text_told line_reading text
 
--- what a chart's answer says of the derivations of the line
-abbrev pub LineSays : List Word → Result ℕ SettledRefusal → Type 0
-LineSays ws (Ok w) = Weighs (line_task ws) (whole_line ws) w × NoneLighter (line_task ws) (whole_line ws) w
-LineSays ws (Err NoDerivation) = Derives (line_task ws) (whole_line ws) → ⊥
-LineSays ws (Err Full) = Over (line_task ws) room
-LineSays ws (Err NoStretch) = ⊥
+-- what an answer says of the derivations of the line
+abbrev pub LineSays : List Word → Result Reading ReadingRefusal → Type 0
+-- just these nodes are those of a derivation of just this weight, and none is lighter
+LineSays ws (Ok r) = (d : Tree (line_task ws) line 0 (largest_end ws)) × (tree_weight d ≡ r.weight) × (tree_nodes d ≡ r.nodes.items) × NoneLighter (line_task ws) (whole_line ws) r.weight
+-- there is a derivation, and none is lighter, but it has more nodes than there is room for
+LineSays ws (Err TooShort) = (d : Tree (line_task ws) line 0 (largest_end ws)) × NoneLighter (line_task ws) (whole_line ws) (tree_weight d) × (most_nodes < length (tree_nodes d))
+LineSays ws (Err (Unanswered NoDerivation)) = (Derives (line_task ws) (whole_line ws) → ⊥) × (Over (line_task ws) room → ⊥)
+LineSays ws (Err (Unanswered Full)) = Unfinished (line_chart ws) (whole_line ws) × Over (line_task ws) room
+LineSays ws (Err (Unanswered NoStretch)) = ⊥
 
 -- the same of the answer for a text, where a text writes these words and they make a lattice
-abbrev pub TextSays : List Word → Result ℕ Refusal → Type 0
-TextSays ws (Ok w) = LineSays ws (Ok w)
+abbrev pub TextSays : List Word → Result Reading Refusal → Type 0
+TextSays ws (Ok r) = LineSays ws (Ok r)
 TextSays ws (Err (Chart refusal)) = LineSays ws (Err refusal)
 TextSays ws (Err (Form fault)) = ⊥
 TextSays ws (Err (Lattice fault)) = ⊥

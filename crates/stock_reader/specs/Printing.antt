@@ -1,6 +1,15 @@
 -- What the program prints. Assumes nothing.
-use Rattle.std.specs.Prelude.{ℕ, List, ◌++◌, codes, decimal}
-use Rattle.stock_reader.specs.declared.weight.Weight.{Weight}
+use Rattle.std.specs.Prelude.{ℕ, List, ◌∷◌, ◌++◌, codes, decimal}
+use Rattle.std.specs.List.{flat_map}
+use Rattle.chart_model.specs.Telling.{node_text}
+use Rattle.chart_model.specs.declared.node.Node.{Node}
+use Rattle.line_format.specs.Lines.{line_feed}
+use Rattle.stock_reader.specs.declared.reading.Reading.{Reading}
 
-abbrev pub weight_text : Weight → List ℕ
-weight_text weight = codes "weight " ++ decimal weight.0
+-- nodes, each in a line of its own after what stands before
+abbrev pub node_lines : List Node → List ℕ
+node_lines ns = flat_map (λ n. line_feed ∷ node_text n) ns
+
+-- the weight of a reading, and then its nodes
+abbrev pub reading_text : Reading → List ℕ
+reading_text r = codes "weight " ++ (decimal r.weight ++ node_lines r.nodes.items)

@@ -1,6 +1,6 @@
 -- The numbers of the program's refusals. Assumes nothing.
 use Rattle.std.specs.Prelude.{ℕ}
-use Rattle.chart.specs.Refusals.{settled_number}
+use Rattle.chart.specs.Refusals.{reading_number}
 use Rattle.lattice.specs.Faults.{told}
 use Rattle.line_format.specs.Faults.{form_number}
 use Rattle.stock_reader.specs.declared.refusal.Refusal.{Refusal}
@@ -9,4 +9,4 @@ use Rattle.stock_reader.specs.declared.refusal.Refusal.TheVariants.{Form, Lattic
 abbrev pub refusal_number : Refusal → ℕ
 refusal_number (Form fault) = form_number fault
 refusal_number (Lattice fault) = (told fault).0
-refusal_number (Chart refusal) = settled_number refusal
+refusal_number (Chart refusal) = reading_number refusal

@@ -1,35 +1,39 @@
-// What the heard words of a text weigh as a line.
+// What a text of heard words is read as: the lightest line that they make.
 #![tactic(auto)]
 
 ghost use Rattle.std.specs.Prelude.{◌≡◌, List, None, Ok};
+ghost use Rattle.std.specs.Result.{result_map_both};
 ghost use Rattle.lattice.specs.declared.word.Word.{Word};
 ghost use Rattle.lattice.specs.Checking.{words_refusal};
 ghost use Rattle.line_format.specs.Lines.{text_words};
 ghost use Rattle.line_format.specs.Writing.{Decided};
+ghost use Rattle.chart.specs.Refusals.{reading_number};
 ghost use Rattle.stock_reader.specs.Refusals.{refusal_number};
-ghost use Rattle.chart.specs.Refusals.{settled_number, told};
-ghost use Rattle.stock_reader.specs.Line.{line_weight, text_weight, LineSays, TextSays};
+ghost use Rattle.stock_reader.specs.Line.{told_reading, line_reading, text_reading, LineSays, TextSays};
 
+pub mod reading;
 pub mod refusal;
 #[cfg(test)]
 mod tests;
-pub mod weight;
 
+use arrayvec::ArrayVec;
 use chart::phrase::Phrase;
-use chart::refusal::SettledRefusal;
+use chart::read::read;
+use chart::refusal::ReadingRefusal;
 use chart::setting::Setting;
-use chart::weigh::weigh;
+use chart_model::node::Node;
 use grammar::count::{CountGrammar, LINE};
 use lattice::Lattice;
 use lattice::checked::CheckedWords;
 use lattice::heard::HeardLattice;
 use line_format::text::read_words;
+use reading::{MOST_NODES, Reading};
 use refusal::Refusal;
 use weighing::sum::Sum;
 
-// The weight of the lightest line over a whole lattice.
-fn weigh_line(lattice: HeardLattice) -> Result<u64, SettledRefusal>
-    ensures answer { told settled_number result ≡ line_weight lattice.entry.checked.records.now }
+// Reads the lightest line over a whole lattice.
+fn read_lattice(lattice: HeardLattice) -> Result<Reading, ReadingRefusal>
+    ensures answer { result_map_both told_reading reading_number result ≡ line_reading lattice.entry.checked.records.now }
     ensures says { LineSays lattice.entry.checked.records.now result }
 {
     let line = Phrase {
@@ -42,16 +46,22 @@ fn weigh_line(lattice: HeardLattice) -> Result<u64, SettledRefusal>
         lattice,
         weighing: Sum,
     };
-    weigh(setting, line)
+    let mut nodes = ArrayVec::from([Node::default(); MOST_NODES]);
+    let listed = read(setting, line, &mut nodes)?;
+    nodes.truncate(listed.nodes);
+    Ok(Reading {
+        weight: listed.weight,
+        nodes,
+    })
 }
 
-// Reads the words of a text, checks them, and tells the weight of the lightest line that they make.
-pub fn weigh_text(text: &[u8]) -> Result<u64, Refusal>
-    ensures answer { told refusal_number result ≡ text_weight text.now }
-    ensures decided { Decided (λ t. told refusal_number result ≡ text_weight t) text.now }
+// Reads the words of a text, checks them, and reads the lightest line that they make.
+pub fn read_line(text: &[u8]) -> Result<Reading, Refusal>
+    ensures answer { result_map_both told_reading refusal_number result ≡ text_reading text.now }
+    ensures decided { Decided (λ t. result_map_both told_reading refusal_number result ≡ text_reading t) text.now }
     ensures says { (ws : List Word) → text_words text.now ≡ Ok ws → words_refusal ws ≡ None → TextSays ws result }
 {
     let words = read_words(text)?;
     let lattice = HeardLattice::new(CheckedWords::new(&words)?);
-    Ok(weigh_line(lattice)?)
+    Ok(read_lattice(lattice)?)
 }

@@ -1,9 +1,9 @@
-// Why a text has no weight: its form, its words, or its derivations.
+// Why a text is not read: its form, its words, or its derivations.
 ghost use Rattle.std.specs.Prelude.{◌≡◌};
 ghost use Rattle.stock_reader.specs.declared.refusal.Refusal.TheVariants.{Form, Lattice, Chart};
 ghost use Rattle.stock_reader.specs.Refusals.{refusal_number};
 
-use chart::refusal::SettledRefusal;
+use chart::refusal::ReadingRefusal;
 use lattice::fault::LatticeFault;
 use line_format::fault::FormFault;
 use records::numbered::Numbered;
@@ -12,7 +12,7 @@ use records::numbered::Numbered;
 pub enum Refusal {
     Form(FormFault),
     Lattice(LatticeFault),
-    Chart(SettledRefusal),
+    Chart(ReadingRefusal),
 }
 
 impl Numbered for Refusal {
@@ -43,10 +43,10 @@ impl From<LatticeFault> for Refusal {
     }
 }
 
-impl From<SettledRefusal> for Refusal {
+impl From<ReadingRefusal> for Refusal {
     ghost from_gives = { λ refusal r. r ≡ Chart refusal };
 
-    fn from(refusal: SettledRefusal) -> Refusal {
+    fn from(refusal: ReadingRefusal) -> Refusal {
         Refusal::Chart(refusal)
     }
 }

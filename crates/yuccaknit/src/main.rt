@@ -1,13 +1,12 @@
-// Reads heard words from standard input, and tells the weight of the lightest line that they make.
+// Reads heard words from standard input, and tells the lightest line that they make: its weight, and its nodes.
 #![tactic(auto)]
 
 use line_format::input::read_text;
 use records::numbered::Told;
 use std::io;
-use stock_reader::weigh_text;
-use stock_reader::weight::Weight;
+use stock_reader::read_line;
 
 fn main(rt: HostRuntime) -> io::Result<()> {
     let text = read_text(rt.stdin())?;
-    println!(rt; "{}", Told(weigh_text(&text).map(Weight)))
+    println!(rt; "{}", Told(read_line(&text)))
 }
