@@ -111,16 +111,25 @@ def main():
     count = int(sys.argv[1]) if len(sys.argv) > 1 else 2000
     seed = int(sys.argv[2]) if len(sys.argv) > 2 else 1
     rng = random.Random(seed)
-    kinds, differences, second, full = Counter(), 0, 0, 0
+    kinds, differences, second, full, readings, most = Counter(), 0, 0, 0, 0, 0
     for turn in range(count):
         text = random_text(rng)
         expected, chart = model.answer(text)
         printed = subprocess.run([PROGRAM], input=text, capture_output=True, check=True).stdout.decode()
-        kinds[expected.split()[0] if expected.startswith("weight") else expected.strip()] += 1
+        kinds["weight" if expected.startswith("weight") else expected.strip()] += 1
         if printed != expected:
             differences += 1
             print(f"turn {turn}: the program printed {printed!r}, the model {expected!r}, for {text!r}")
         full += chart is not None and chart.full
+        if printed.startswith("weight"):
+            first, *lines = printed.splitlines()
+            nodes = [(kind, *map(int, numbers)) for kind, *numbers in (line.split(" ") for line in lines)]
+            told = model.weight_of(model.STOCK_COUNTS, model.words_of(text), nodes, model.LINE, 0, chart.last)
+            readings += 1
+            most = max(most, len(nodes))
+            if first != f"weight {told}":
+                differences += 1
+                print(f"turn {turn}: {printed!r} is no derivation of its weight, for {text!r}")
         if chart is not None and not chart.full and len(chart.edges) < 300:
             best = model.lightest(model.STOCK_COUNTS, model.words_of(text))
             finished = {edge: chart.weights[at] for at, edge in enumerate(chart.edges) if chart.done[at]}
@@ -128,7 +137,7 @@ def main():
             if best != finished:
                 differences += 1
                 print(f"turn {turn}: the model's chart is not what going round gives, for {text!r}")
-    print(f"{count} texts, {differences} differences; " + ", ".join(f"{kind}: {n}" for kind, n in sorted(kinds.items())) + f"; full charts: {full}; second opinions: {second}")
+    print(f"{count} texts, {differences} differences; " + ", ".join(f"{kind}: {n}" for kind, n in sorted(kinds.items())) + f"; full charts: {full}; readings: {readings}, of up to {most} nodes; second opinions: {second}")
     return 1 if differences else 0
 
 

@@ -5,6 +5,7 @@ places in a list with a dictionary beside it, and is meant to be read, not to be
 """
 
 ROOM = 1024
+MOST_NODES = 256
 HEAVIEST = 2**64 - 1
 
 LINE, PART, NUM, GAP = 1, 2, 3, 4
@@ -73,22 +74,25 @@ def join(a, b):
 
 
 class Chart:
-    """Edges are ('passive', symbol, from, to) and ('active', rule, seen, from, to)."""
+    """Edges are ('passive', symbol, from, to) and ('active', rule, seen, from, to).
+
+    Origins are ('word', number), ('empty', rule), ('first', rule, place) and ('next', place of the active edge, place).
+    """
 
     def __init__(self, rules, words):
         self.rules = rules
         self.last = max([word[1] for word in words], default=0)
-        self.edges, self.weights, self.done = [], [], []
+        self.edges, self.weights, self.origins, self.done = [], [], [], []
         self.place = {}
         self.full = False
-        for start, end, symbol, mark in words:
-            self.arrive(("passive", symbol, start, end), mark)
+        for n, (start, end, symbol, mark) in enumerate(words):
+            self.arrive(("passive", symbol, start, end), mark, ("word", n))
         for node in range(self.last + 1):
-            for left, right, mark in rules:
+            for rule, (left, right, mark) in enumerate(rules):
                 if not right:
-                    self.arrive(("passive", left, node, node), mark)
+                    self.arrive(("passive", left, node, node), mark, ("empty", rule))
 
-    def arrive(self, edge, weight):
+    def arrive(self, edge, weight, origin):
         if self.full:
             return
         at = self.place.get(edge)
@@ -99,9 +103,11 @@ class Chart:
             self.place[edge] = len(self.edges)
             self.edges.append(edge)
             self.weights.append(weight)
+            self.origins.append(origin)
             self.done.append(False)
         elif not self.done[at] and weight < self.weights[at]:
             self.weights[at] = weight
+            self.origins[at] = origin
 
     def reached(self, rule, seen, start, end):
         left, right, _ = self.rules[rule]
@@ -124,18 +130,18 @@ class Chart:
             _, symbol, start, end = edge
             for rule, (_, right, mark) in enumerate(self.rules):
                 if right and right[0] == symbol:
-                    arrivals.append((self.reached(rule, 1, start, end), join(mark, weight)))
+                    arrivals.append((self.reached(rule, 1, start, end), join(mark, weight), ("first", rule, best)))
             for at, other in enumerate(self.edges):
                 if self.done[at] and other[0] == "active":
                     _, rule, seen, from_, meets = other
                     if meets == start and self.rules[rule][1][seen] == symbol:
-                        arrivals.append((self.reached(rule, seen + 1, from_, end), join(self.weights[at], weight)))
+                        arrivals.append((self.reached(rule, seen + 1, from_, end), join(self.weights[at], weight), ("next", at, best)))
         else:
             _, rule, seen, start, meets = edge
             wanted = self.rules[rule][1][seen]
             for at, other in enumerate(self.edges):
                 if self.done[at] and other[0] == "passive" and other[1] == wanted and other[2] == meets:
-                    arrivals.append((self.reached(rule, seen + 1, start, other[3]), join(weight, self.weights[at])))
+                    arrivals.append((self.reached(rule, seen + 1, start, other[3]), join(weight, self.weights[at]), ("next", best, at)))
         for arrival in arrivals:
             self.arrive(*arrival)
         return not self.full
@@ -153,6 +159,26 @@ class Chart:
             return self.weights[at]
         raise Refused(10 if self.full else 9)
 
+    def nodes(self, at):
+        """The nodes of the edge at a place: its own if it is passive, and those of its children, left to right."""
+        edge, origin = self.edges[at], self.origins[at]
+        if origin[0] == "word":
+            return [("word", origin[1], edge[2], edge[3])]
+        below = [node for place in origin[1:] for node in self.nodes(place)] if origin[0] == "next" else []
+        if origin[0] == "first":
+            below = self.nodes(origin[2])
+        if edge[0] == "active":
+            return below
+        rule = self.edges[origin[1]][1] if origin[0] == "next" else origin[1]
+        return [("rule", rule, edge[2], edge[3])] + below
+
+    def reading(self, symbol, start, end):
+        self.question(symbol, start, end)
+        nodes = self.nodes(self.place[("passive", symbol, start, end)])
+        if len(nodes) > MOST_NODES:
+            raise Refused(12)
+        return nodes
+
 
 def answer(text):
     """What the program should print for a text, and the settled chart if there is one."""
@@ -163,7 +189,9 @@ def answer(text):
         return f"refused {refusal.number}\n", None
     chart = Chart(STOCK_COUNTS, words).settle()
     try:
-        return f"weight {chart.question(LINE, 0, chart.last)}\n", chart
+        nodes = chart.reading(LINE, 0, chart.last)
+        lines = [f"weight {chart.question(LINE, 0, chart.last)}"] + [" ".join(map(str, node)) for node in nodes]
+        return "".join(f"{line}\n" for line in lines), chart
     except Refused as refusal:
         return f"refused {refusal.number}\n", chart
 
@@ -208,3 +236,30 @@ def lightest(rules, words):
                 for end, weight in ends.items():
                     changed |= found(("passive", left, start, end), weight)
     return best
+
+
+def weight_of(rules, words, nodes, symbol, start, end):
+    """The weight of the derivation that the nodes list, or None if they list none: a second opinion on readings."""
+
+    def tree(at, symbol, start, end):
+        if at == len(nodes):
+            return None
+        kind, number, from_, to = nodes[at]
+        if (from_, end if end is not None else to) != (start, to):
+            return None
+        if kind == "word":
+            return (at + 1, to, words[number][3]) if words[number][:3] == (from_, to, symbol) else None
+        left, right, weight = rules[number]
+        if left != symbol:
+            return None
+        at, meets = at + 1, start
+        for child in right:
+            found = tree(at, child, meets, None)
+            if found is None:
+                return None
+            at, meets, below = found
+            weight = join(weight, below)
+        return (at, to, weight) if meets == to else None
+
+    found = tree(0, symbol, start, end)
+    return found[2] if found is not None and found[0] == len(nodes) else None
