@@ -120,9 +120,15 @@ fn more_room(rt: HostRuntime) {
 #[test]
 fn one_node_short(rt: HostRuntime) {
     let mut nodes = [UNUSED; 10];
-    assert_eq!(rt; read_line(&two_boxes(), &mut nodes), Err(ReadingRefusal::TooShort));
+    assert_eq!(rt;
+        read_line(&two_boxes(), &mut nodes),
+        Err(ReadingRefusal::TooShort)
+    );
     assert_eq!(rt; nodes[..], two_boxes_read()[..10]);
-    assert_eq!(rt; read_line(&two_boxes(), &mut []), Err(ReadingRefusal::TooShort));
+    assert_eq!(rt;
+        read_line(&two_boxes(), &mut []),
+        Err(ReadingRefusal::TooShort)
+    );
 }
 
 #[test]
@@ -155,7 +161,10 @@ fn symbol_of_itself(rt: HostRuntime) -> Result<(), Fail> {
         nodes: 2,
     };
     assert_eq!(rt; read(setting, five, &mut nodes), Ok(listed));
-    assert_eq!(rt; nodes, [node(Kind::Rule, 1, 0, 1), node(Kind::Word, 0, 0, 1), UNUSED]);
+    assert_eq!(rt;
+        nodes,
+        [node(Kind::Rule, 1, 0, 1), node(Kind::Word, 0, 0, 1), UNUSED]
+    );
     Ok(())
 }
 
@@ -176,7 +185,14 @@ fn empties(rt: HostRuntime) -> Result<(), Fail> {
     };
     assert_eq!(rt; chart.question(five), Ok(5));
     assert_eq!(rt; chart.reading(five, &mut nodes), Ok(3));
-    assert_eq!(rt; nodes, [node(Kind::Rule, 0, 0, 0), node(Kind::Rule, 1, 0, 0), node(Kind::Rule, 1, 0, 0)]);
+    assert_eq!(rt;
+        nodes,
+        [
+            node(Kind::Rule, 0, 0, 0),
+            node(Kind::Rule, 1, 0, 0),
+            node(Kind::Rule, 1, 0, 0)
+        ]
+    );
     Ok(())
 }
 
@@ -200,7 +216,17 @@ fn more_nodes_than_can_be_counted(rt: HostRuntime) -> Result<(), Fail> {
         from: 0,
         to: 0,
     };
-    assert_eq!(rt; read(setting, sixty, &mut nodes), Err(ReadingRefusal::TooShort));
-    assert_eq!(rt; nodes, [node(Kind::Rule, 60, 0, 0), node(Kind::Rule, 59, 0, 0), node(Kind::Rule, 58, 0, 0)]);
+    assert_eq!(rt;
+        read(setting, sixty, &mut nodes),
+        Err(ReadingRefusal::TooShort)
+    );
+    assert_eq!(rt;
+        nodes,
+        [
+            node(Kind::Rule, 60, 0, 0),
+            node(Kind::Rule, 59, 0, 0),
+            node(Kind::Rule, 58, 0, 0)
+        ]
+    );
     Ok(())
 }
