@@ -1,0 +1,39 @@
+// How many cases there were, and how many of them came out as they should.
+use crate::case::Case;
+use std::{fmt, io};
+
+#[derive(Clone, Copy, PartialEq, Eq, Debug, Default)]
+pub(crate) struct Tally {
+    cases: u32,
+    right: u32,
+}
+
+impl Tally {
+    // Counts a case.
+    fn count(&mut self, case: &Case) {
+        self.cases = self.cases.saturating_add(1);
+        if case.is_right() {
+            self.right = self.right.saturating_add(1);
+        }
+    }
+
+    // Tells cases, a line for each, and counts them.
+    pub(crate) fn tell(&mut self, rt: &impl Print, cases: &[Case]) -> io::Result<()> {
+        for case in cases {
+            self.count(case);
+            println!(rt; "{case}")?;
+        }
+        Ok(())
+    }
+}
+
+// The last line of the table, without its line feed.
+impl fmt::Display for Tally {
+    fn fmt<W: fmt::Write>(&self, f: &mut fmt::Formatter<W>) -> fmt::Result {
+        write!(
+            f,
+            "{} of {} cases as they should be",
+            self.right, self.cases
+        )
+    }
+}
