@@ -7,6 +7,7 @@ use chart::run::run;
 use chart::setting::Setting;
 use chart::working::WorkingChart;
 use chart_model::edge::Edge;
+use chart_model::node::{Kind, Node};
 use grammar::Grammar;
 use grammar::list::RuleList;
 use grammar::rule::RuleRecord;
@@ -22,7 +23,8 @@ pub(crate) fn tell(rt: &impl Print, tally: &mut Tally) -> io::Result<()> {
     tally.tell(rt, &just_full())?;
     tally.tell(rt, &one_too_many())?;
     tally.tell(rt, &filled_by_a_step())?;
-    tally.tell(rt, &filled_in_a_run())
+    tally.tell(rt, &filled_in_a_run())?;
+    tally.tell(rt, &read_when_full())
 }
 
 // Rules without right symbols, each with its number as its left, and mark 7.
@@ -217,6 +219,50 @@ fn filled_in_a_run() -> [Case; 4] {
             "filled in a run: what was turned away",
             Err(0),
             given(outcome.weight(turned_away)),
+        ),
+    ]
+}
+
+// What is finished in a full chart is read: the first word is its own reading.
+fn read_when_full() -> [Case; 4] {
+    let (rules, words) = filling();
+    let chart = over(&rules, &words).settle();
+    let blank = Node {
+        kind: Kind::Rule,
+        number: 255,
+        from: 255,
+        to: 255,
+    };
+    let mut nodes = [blank; 2];
+    let finished = chart.reading(phrase(100, 0, 9), &mut nodes);
+    let open = chart.reading(phrase(0, 0, 0), &mut nodes);
+    let past = chart.reading(phrase(0, 0, 10), &mut nodes);
+    let word = Node {
+        kind: Kind::Word,
+        number: 0,
+        from: 0,
+        to: 9,
+    };
+    [
+        shows(
+            "read when full: a finished edge",
+            Ok(1),
+            told(finished.map(|nodes| nodes as u64)),
+        ),
+        shows(
+            "read when full: an open edge",
+            Err(10),
+            told(open.map(|nodes| nodes as u64)),
+        ),
+        shows(
+            "read when full: no stretch",
+            Err(7),
+            told(past.map(|nodes| nodes as u64)),
+        ),
+        shows(
+            "read when full: the list then",
+            Ok(1),
+            Ok(u64::from(nodes == [word, blank])),
         ),
     ]
 }

@@ -5,6 +5,7 @@ mod case;
 mod charts;
 mod full;
 mod making;
+mod readings;
 mod refusals;
 mod rule_limits;
 mod runs;
@@ -28,5 +29,6 @@ fn main(rt: HostRuntime) -> io::Result<()> {
     refusals::tell(&rt, &mut tally)?;
     full::tell(&rt, &mut tally)?;
     runs::tell(&rt, &mut tally)?;
+    readings::tell(&rt, &mut tally)?;
     println!(rt; "{tally}")
 }
