@@ -1,14 +1,16 @@
 // Charts of just as many edges as there is room for, and of one more.
 use crate::case::{Case, given, shows, told};
 use crate::making::{heard, phrase, rule, ruled, word};
+use crate::readings::{blank, heard_node, nodes_of};
 use crate::tally::Tally;
 use chart::call::Call;
 use chart::run::run;
 use chart::setting::Setting;
+use chart::settled::SettledChart;
 use chart::working::WorkingChart;
 use chart_model::edge::Edge;
-use chart_model::node::{Kind, Node};
 use grammar::Grammar;
+use grammar::count::{CountGrammar, LINE, ONE};
 use grammar::list::RuleList;
 use grammar::rule::RuleRecord;
 use lattice::Lattice;
@@ -24,7 +26,8 @@ pub(crate) fn tell(rt: &impl Print, tally: &mut Tally) -> io::Result<()> {
     tally.tell(rt, &one_too_many())?;
     tally.tell(rt, &filled_by_a_step())?;
     tally.tell(rt, &filled_in_a_run())?;
-    tally.tell(rt, &read_when_full())
+    tally.tell(rt, &read_when_full())?;
+    tally.tell(rt, &rows_of_numbers())
 }
 
 // Rules without right symbols, each with its number as its left, and mark 7.
@@ -227,42 +230,72 @@ fn filled_in_a_run() -> [Case; 4] {
 fn read_when_full() -> [Case; 4] {
     let (rules, words) = filling();
     let chart = over(&rules, &words).settle();
-    let blank = Node {
-        kind: Kind::Rule,
-        number: 255,
-        from: 255,
-        to: 255,
-    };
-    let mut nodes = [blank; 2];
-    let finished = chart.reading(phrase(100, 0, 9), &mut nodes);
-    let open = chart.reading(phrase(0, 0, 0), &mut nodes);
-    let past = chart.reading(phrase(0, 0, 10), &mut nodes);
-    let word = Node {
-        kind: Kind::Word,
-        number: 0,
-        from: 0,
-        to: 9,
-    };
+    let mut nodes = [blank(); 2];
+    let finished = nodes_of(&chart, phrase(100, 0, 9), &mut nodes);
+    let open = nodes_of(&chart, phrase(0, 0, 0), &mut nodes);
+    let past = nodes_of(&chart, phrase(0, 0, 10), &mut nodes);
+    let is_word = nodes == [heard_node(0, 0, 9), blank()];
     [
-        shows(
-            "read when full: a finished edge",
-            Ok(1),
-            told(finished.map(|nodes| nodes as u64)),
-        ),
-        shows(
-            "read when full: an open edge",
-            Err(10),
-            told(open.map(|nodes| nodes as u64)),
-        ),
-        shows(
-            "read when full: no stretch",
-            Err(7),
-            told(past.map(|nodes| nodes as u64)),
-        ),
+        shows("read when full: a finished edge", Ok(1), finished),
+        shows("read when full: an open edge", Err(10), open),
+        shows("read when full: no stretch", Err(7), past),
         shows(
             "read when full: the list then",
             Ok(1),
-            Ok(u64::from(nodes == [word, blank])),
+            Ok(u64::from(is_word)),
         ),
     ]
+}
+
+// Numbers one after the other, each a word without doubt.
+fn numbers<const N: usize>() -> [Word; N] {
+    let mut words = [word(0, 1, ONE, 0); N];
+    let mut node: u8 = 0;
+    for heard in words.iter_mut() {
+        heard.from = node;
+        node = node.saturating_add(1);
+        heard.to = node;
+    }
+    words
+}
+
+// A line of numbers has a part for each, and a line over each stretch: 31 of them are more than a chart has room for. Which lines
+// are finished before it is full is what the model of tools/fuzz says too.
+fn rows_of_numbers() -> [Case; 4] {
+    let few = numbers::<20>();
+    let many = numbers::<31>();
+    let short = counted(&few);
+    let long = counted(&many);
+    [
+        shows(
+            "numbers: a line of 20",
+            Ok(158),
+            told(short.question(phrase(LINE, 0, 20))),
+        ),
+        shows(
+            "numbers: a line of 31",
+            Err(10),
+            told(long.question(phrase(LINE, 0, 31))),
+        ),
+        shows(
+            "numbers: the first 20 of 31",
+            Err(10),
+            told(long.question(phrase(LINE, 0, 20))),
+        ),
+        shows(
+            "numbers: the last 10 of 31",
+            Ok(78),
+            told(long.question(phrase(LINE, 21, 31))),
+        ),
+    ]
+}
+
+// The settled chart over words, by the stock counts.
+fn counted(words: &[Word]) -> SettledChart<CountGrammar, HeardLattice<'_>, Sum> {
+    let setting = Setting {
+        grammar: CountGrammar,
+        lattice: heard(words),
+        weighing: Sum,
+    };
+    WorkingChart::open(setting).settle()
 }

@@ -4,6 +4,7 @@
 mod case;
 mod charts;
 mod full;
+mod lines;
 mod making;
 mod readings;
 mod refusals;
@@ -30,5 +31,6 @@ fn main(rt: HostRuntime) -> io::Result<()> {
     full::tell(&rt, &mut tally)?;
     runs::tell(&rt, &mut tally)?;
     readings::tell(&rt, &mut tally)?;
+    lines::tell(&rt, &mut tally)?;
     println!(rt; "{tally}")
 }

@@ -29,7 +29,7 @@ pub(crate) fn tell(rt: &impl Print, tally: &mut Tally) -> io::Result<()> {
 }
 
 // A word of a reading.
-fn heard_node(number: u8, from: u8, to: u8) -> Node {
+pub(crate) fn heard_node(number: u8, from: u8, to: u8) -> Node {
     Node {
         kind: Kind::Word,
         number,
@@ -49,7 +49,7 @@ fn ruled_node(number: u8, from: u8, to: u8) -> Node {
 }
 
 // What stands in a list before it is written: a node of no reading here.
-fn blank() -> Node {
+pub(crate) fn blank() -> Node {
     heard_node(255, 255, 255)
 }
 
@@ -93,7 +93,7 @@ fn settled(words: &[Word]) -> SettledChart<CountGrammar, HeardLattice<'_>, Sum> 
 }
 
 // How many nodes a reading has.
-fn nodes_of<G: Grammar, L: Lattice, W: Weighing>(
+pub(crate) fn nodes_of<G: Grammar, L: Lattice, W: Weighing>(
     chart: &SettledChart<G, L, W>,
     phrase: Phrase,
     nodes: &mut [Node],

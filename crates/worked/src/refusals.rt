@@ -18,8 +18,8 @@ pub(crate) fn tell(rt: &impl Print, tally: &mut Tally) -> io::Result<()> {
     tally.tell(rt, &long_texts())
 }
 
-// A working chart over "two box, open one": what is no stretch is refused before what is not finished, and no question changes the
-// chart.
+// A working chart over "two box, open one": what is no stretch is refused before what is not finished, and no question changes
+// the chart.
 fn working_questions() -> [Case; 9] {
     let words = words();
     let setting = Setting {
