@@ -19,7 +19,7 @@ use Rattle.chart.specs.declared.refusal.SettledRefusal.TheVariants.{NoStretch, N
 use Rattle.chart.specs.declared.refusal.ReadingRefusal.{ReadingRefusal}
 use Rattle.chart.specs.declared.refusal.ReadingRefusal.TheVariants.{Unanswered, TooShort}
 use Rattle.chart.proofs.Overlay.{over_fits}
-use Rattle.stock_reader.specs.Line.{line_task, line_chart, whole_line, most_nodes, Told, told_reading, fitting, line_reading, LineSays}
+use Rattle.stock_reader.specs.Line.{line_task, line_chart, whole_line, most_nodes, WeightAndNodes, told_reading, fitting, line_reading, LineSays}
 use Rattle.stock_reader.specs.declared.reading.Reading.{Reading}
 
 -- A LIST THAT WAS LENT AS A WHOLE
@@ -63,26 +63,26 @@ module _ (ws : List Word) where
     abbrev listed : Result ℕ ℕ → Result Listed ℕ
     listed o = elim o as (λ _. Result Listed ℕ) [ Ok w ↦ beside w (elim o as (λ _. Result ℕ ℕ) [ Ok v ↦ counted fits_all | Err n ↦ Err n ]) | Err n ↦ Err n ]
 
-    abbrev read_so : Result ℕ ℕ → Result Told ℕ
-    read_so o = elim o as (λ _. Result Told ℕ) [ Ok w ↦ fitting w nodes | Err n ↦ Err n ]
+    abbrev read_so : Result ℕ ℕ → Result WeightAndNodes ℕ
+    read_so o = elim o as (λ _. Result WeightAndNodes ℕ) [ Ok w ↦ fitting w nodes | Err n ↦ Err n ]
 
     same_room : leb (length nodes) most_nodes ≡ fits_all
     same_room = ap (leb (length nodes)) (sym room)
 
     refused_so : (number : ℕ) (o : Result ℕ ℕ) → Err number ≡ listed o → Err number ≡ read_so o
     refused_so number (Err n) h = cc
-    refused_so number (Ok w) h = go fits_all h ∙ ap (λ b. elim b as (λ _. Result Told ℕ) [ true ↦ Ok (w, nodes) | false ↦ Err 12 ]) (sym same_room)
+    refused_so number (Ok w) h = go fits_all h ∙ ap (λ b. elim b as (λ _. Result WeightAndNodes ℕ) [ true ↦ Ok (w, nodes) | false ↦ Err 12 ]) (sym same_room)
       where
-        go : (b : Bool) → Err number ≡ beside w (counted b) → Err number ≡ elim b as (λ _. Result Told ℕ) [ true ↦ Ok (w, nodes) | false ↦ Err 12 ]
+        go : (b : Bool) → Err number ≡ beside w (counted b) → Err number ≡ elim b as (λ _. Result WeightAndNodes ℕ) [ true ↦ Ok (w, nodes) | false ↦ Err 12 ]
         go true g = absurd cc
         go false g = cc
 
     told_so : (l : Listed) (o : Result ℕ ℕ) → Ok l ≡ listed o → after ≡ elim o as (λ _. List Node) [ Ok w ↦ over nodes before | Err n ↦ before ] →
         (all : List Node) → length all ≡ most_nodes → Ok (l.weight, kept l.nodes all after) ≡ read_so o
     told_so l (Err n) h written all whole = absurd cc
-    told_so l (Ok w) h written all whole = go fits_all refl h ∙ ap (λ b. elim b as (λ _. Result Told ℕ) [ true ↦ Ok (w, nodes) | false ↦ Err 12 ]) (sym same_room)
+    told_so l (Ok w) h written all whole = go fits_all refl h ∙ ap (λ b. elim b as (λ _. Result WeightAndNodes ℕ) [ true ↦ Ok (w, nodes) | false ↦ Err 12 ]) (sym same_room)
       where
-        go : (b : Bool) → fits_all ≡ b → Ok l ≡ beside w (counted b) → Ok (l.weight, kept l.nodes all after) ≡ elim b as (λ _. Result Told ℕ) [ true ↦ Ok (w, nodes) | false ↦ Err 12 ]
+        go : (b : Bool) → fits_all ≡ b → Ok l ≡ beside w (counted b) → Ok (l.weight, kept l.nodes all after) ≡ elim b as (λ _. Result WeightAndNodes ℕ) [ true ↦ Ok (w, nodes) | false ↦ Err 12 ]
         go false fits g = absurd cc
         go true fits g =
             let within : length nodes ≤ length before = leb-true (length nodes) (length before) fits in

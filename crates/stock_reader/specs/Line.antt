@@ -1,10 +1,12 @@
 -- What the line of a text is read as, or the number of its refusal: first its form, then its words, then its derivations. Assumes nothing.
-use Rattle.std.specs.Prelude.{◌≡◌, ℕ, ◌<◌, true, false, List, length, Some, None, Ok, Err, Result, nat_le}
+use Rattle.std.specs.Prelude.{◌≡◌, ℕ, ◌<◌, true, false, List, length, Some, None, Option, Ok, Err, Result, nat_le}
 use Rattle.weighing.specs.Weighings.{sum_weights}
 use Rattle.grammar.specs.Count.{line, count_rules}
 use Rattle.lattice.specs.declared.word.Word.{Word}
 use Rattle.lattice.specs.Checking.{words_refusal}
+use Rattle.lattice.specs.Faults.{told}
 use Rattle.lattice.specs.Heard.{largest_end}
+use Rattle.line_format.specs.Faults.{form_number}
 use Rattle.line_format.specs.Lines.{text_words}
 use Rattle.chart_model.specs.Task.{Task}
 use Rattle.chart_model.specs.Derivation.{Tree, tree_weight, Derives}
@@ -23,14 +25,6 @@ use Rattle.stock_reader.specs.declared.reading.Reading.{Reading}
 use Rattle.stock_reader.specs.declared.refusal.Refusal.{Refusal}
 use Rattle.stock_reader.specs.declared.refusal.Refusal.TheVariants.{Form, Lattice, Chart}
 
--- what is told of words that make a lattice, or the number of their refusal
-abbrev pub words_told : {A : Type 0} → (List Word → Result A ℕ) → List Word → Result A ℕ
-words_told {A} tell ws = elim (words_refusal ws) as (λ _. Result A ℕ) [ None ↦ tell ws | Some refusal ↦ Err refusal.0 ]
-
--- the same of the words that a text writes; what is not of the form is refused first
-abbrev pub text_told : {A : Type 0} → (List Word → Result A ℕ) → List ℕ → Result A ℕ
-text_told {A} tell text = elim (text_words text) as (λ _. Result A ℕ) [ Ok ws ↦ words_told tell ws | Err number ↦ Err number ]
-
 -- heard words, read as stock counts, with doubts added up
 abbrev pub line_task : List Word → Task
 line_task ws = record { rules = count_rules; last = largest_end ws; words = ws; weights = sum_weights }
@@ -47,19 +41,19 @@ line_chart ws = settled (line_task ws) room (opened (line_task ws) room)
 abbrev pub most_nodes : ℕ
 most_nodes = 256
 
--- a weight, and the nodes that have it
-abbrev pub Told : Type 0
-Told = ℕ × List Node
+-- a weight, and the nodes of a derivation that has it
+abbrev pub WeightAndNodes : Type 0
+WeightAndNodes = ℕ × List Node
 
-abbrev pub told_reading : Reading → Told
+abbrev pub told_reading : Reading → WeightAndNodes
 told_reading r = (r.weight, r.nodes.items)
 
 -- nodes as they are told beside their weight; 12 where there is no room for them
-abbrev pub fitting : ℕ → List Node → Result Told ℕ
+abbrev pub fitting : ℕ → List Node → Result WeightAndNodes ℕ
 fitting w ns = elim (nat_le (length ns) most_nodes) [ true ↦ Ok (w, ns) | false ↦ Err 12 ]
 
 -- what a settled chart reads of the line
-abbrev pub line_reading : List Word → Result Told ℕ
+abbrev pub line_reading : List Word → Result WeightAndNodes ℕ
 line_reading ws =
     elim (settled_answer (line_task ws) (line_chart ws) line 0 (largest_end ws)) [
       | Ok w ↦ fitting w (reading (line_chart ws).places (whole_line ws))
@@ -67,12 +61,12 @@ line_reading ws =
     ]
 
 -- words that make no lattice are refused
-abbrev pub words_reading : List Word → Result Told ℕ
-words_reading ws = words_told line_reading ws
+abbrev pub words_reading : List Word → Result WeightAndNodes ℕ
+words_reading ws = elim (words_refusal ws) [ None ↦ line_reading ws | Some refusal ↦ Err refusal.0 ]
 
--- and so is what is not of the form
-abbrev pub text_reading : List ℕ → Result Told ℕ
-text_reading text = text_told line_reading text
+-- and so is, before that, what is not of the form
+abbrev pub text_reading : List ℕ → Result WeightAndNodes ℕ
+text_reading text = elim (text_words text) [ Ok ws ↦ words_reading ws | Err number ↦ Err number ]
 
 -- what an answer says of the derivations of the line
 abbrev pub LineSays : List Word → Result Reading ReadingRefusal → Type 0
@@ -90,3 +84,17 @@ TextSays ws (Ok r) = LineSays ws (Ok r)
 TextSays ws (Err (Chart refusal)) = LineSays ws (Err refusal)
 TextSays ws (Err (Form fault)) = ⊥
 TextSays ws (Err (Lattice fault)) = ⊥
+
+-- the form of a text is refused by this number
+abbrev pub RefusesForm : Result Reading Refusal → ℕ → Type 0
+RefusesForm (Err (Form fault)) number = form_number fault ≡ number
+RefusesForm (Err (Lattice fault)) number = ⊥
+RefusesForm (Err (Chart refusal)) number = ⊥
+RefusesForm (Ok r) number = ⊥
+
+-- its words are refused by this number, and with this place
+abbrev pub RefusesWords : Result Reading Refusal → ℕ × Option ℕ → Type 0
+RefusesWords (Err (Lattice fault)) refusal = told fault ≡ refusal
+RefusesWords (Err (Form fault)) refusal = ⊥
+RefusesWords (Err (Chart other)) refusal = ⊥
+RefusesWords (Ok r) refusal = ⊥

@@ -1,7 +1,7 @@
 // What a text of heard words is read as: the lightest line that they make.
 #![tactic(auto)]
 
-ghost use Rattle.std.specs.Prelude.{◌≡◌, List, None, Ok};
+ghost use Rattle.std.specs.Prelude.{◌≡◌, ℕ, List, Some, None, Option, Ok, Err};
 ghost use Rattle.std.specs.Result.{result_map_both};
 ghost use Rattle.lattice.specs.declared.word.Word.{Word};
 ghost use Rattle.lattice.specs.Checking.{words_refusal};
@@ -9,7 +9,7 @@ ghost use Rattle.line_format.specs.Lines.{text_words};
 ghost use Rattle.line_format.specs.Writing.{Decided};
 ghost use Rattle.chart.specs.Refusals.{reading_number};
 ghost use Rattle.stock_reader.specs.Refusals.{refusal_number};
-ghost use Rattle.stock_reader.specs.Line.{told_reading, line_reading, text_reading, LineSays, TextSays};
+ghost use Rattle.stock_reader.specs.Line.{told_reading, line_reading, text_reading, LineSays, TextSays, RefusesForm, RefusesWords};
 
 pub mod reading;
 pub mod refusal;
@@ -60,6 +60,8 @@ pub fn read_line(text: &[u8]) -> Result<Reading, Refusal>
     ensures answer { result_map_both told_reading refusal_number result ≡ text_reading text.now }
     ensures decided { Decided (λ t. result_map_both told_reading refusal_number result ≡ text_reading t) text.now }
     ensures says { (ws : List Word) → text_words text.now ≡ Ok ws → words_refusal ws ≡ None → TextSays ws result }
+    ensures form { (number : ℕ) → text_words text.now ≡ Err number → RefusesForm result number }
+    ensures words { (ws : List Word) (refusal : ℕ × Option ℕ) → text_words text.now ≡ Ok ws → words_refusal ws ≡ Some refusal → RefusesWords result refusal }
 {
     let words = read_words(text)?;
     let lattice = HeardLattice::new(CheckedWords::new(&words)?);

@@ -1,7 +1,7 @@
 // Lines, what they are read as, and how readings are told.
 use super::*;
 use chart_model::node::Kind;
-use records::numbered::Numbered;
+use records::numbered::{Numbered, Told};
 use std::test::Fail;
 
 fn weight(text: &str) -> Option<u64> {
@@ -68,5 +68,22 @@ fn reading_told(rt: HostRuntime) -> Result<(), Fail> {
         reading.to_string(rt.alloc())?.as_str(),
         "weight 109\nrule 1 0 4\nword 127 30 31"
     );
+    Ok(())
+}
+
+#[test]
+fn answers_told(rt: HostRuntime) -> Result<(), Fail> {
+    let answers: [(&[u8], &str); 3] = [
+        (b"", "refused 9"),
+        (b"5 32 1 0\n", "refused 2"),
+        (
+            b"0 1 16 6",
+            "weight 12\nrule 0 0 1\nrule 5 0 1\nrule 6 0 1\nword 0 0 1",
+        ),
+    ];
+    for (text, answer) in answers {
+        let told = Told(read_line(text)).to_string(rt.alloc())?;
+        assert_eq!(rt; told.as_str(), answer);
+    }
     Ok(())
 }
