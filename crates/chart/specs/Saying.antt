@@ -100,15 +100,15 @@ ReadingSays t c x i j before after answer = (q : Result ℕ SettledRefusal) × S
 abbrev pub nodes_of : Result Listed ReadingRefusal → Result ℕ ReadingRefusal
 nodes_of answer = result_map_both (λ (l : Listed). l.nodes) (λ e. e) answer
 
--- the same where the weight is told beside it
+-- what a reading says where the weight is told beside it: all of the above, and that it is the weight in the question's answer
 abbrev pub ListedSays : Task → Chart → ℕ → ℕ → ℕ → List Node → List Node → Result Listed ReadingRefusal → Type 0
 ListedSays t c x i j before after answer =
     (q : Result ℕ SettledRefusal) × SettledSays t c x i j q × Written t x i j before after q (nodes_of answer) × IfOk answer (λ l. q ≡ Ok l.weight)
 
 -- a reading's answer by number, with the weight beside it
 abbrev pub listed_answer : Task → Chart → ℕ → ℕ → ℕ → ℕ → Result Listed ℕ
-listed_answer t c x i j room =
+listed_answer t c x i j most =
     elim (settled_answer t c x i j) [
-      | Ok w ↦ result_map_both (λ n. record { weight = w; nodes = n }) (λ e. e) (reading_answer t c x i j room)
+      | Ok w ↦ result_map_both (λ n. record { weight = w; nodes = n }) (λ e. e) (reading_answer t c x i j most)
       | Err number ↦ Err number
     ]

@@ -13,7 +13,7 @@ use Rattle.chart.specs.declared.places.Places.{Places}
 abbrev pub room : ℕ
 room = 1024
 
--- the taken places
+-- the plain chart that places hold
 abbrev pub view : Places → Chart
 view p = record { places = p.slots.items; full = p.full; finished = p.finished }
 

@@ -1,12 +1,10 @@
 // What numbered things bring arrives at a table, one after the other.
 ghost use Rattle.std.specs.Prelude.{◌≡◌, ◌<◌, ℕ, Option};
 ghost use Rattle.std.specs.Borrow.{Bor};
-ghost use Rattle.chart_model.specs.Plain.{arrive_all};
 ghost use Rattle.chart_model.specs.declared.place.Arrival.{Arrival};
 ghost use Rattle.chart.specs.declared.table.Table.{Table};
 ghost use Rattle.chart.specs.Bringing.{brought, AnyBrought, NamesFinished, Arrived};
 ghost use Rattle.chart.specs.Charts.{held};
-ghost use Rattle.chart.specs.View.{room};
 
 use crate::setting::Setting;
 use crate::table::Table;

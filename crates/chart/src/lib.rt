@@ -1,4 +1,4 @@
-// Charts: opened over a grammar, a lattice and a weighing, stepped, settled and questioned.
+// Charts: opened over a grammar, a lattice and a weighing, stepped, settled, questioned and read.
 #![tactic(auto)]
 
 mod bringing;

@@ -1,5 +1,5 @@
 // Nodes over a caller's list, from its front on.
-ghost use Rattle.std.specs.Prelude.{◌≡◌, ◌≤◌, length, [], ◌∷◌};
+ghost use Rattle.std.specs.Prelude.{◌≡◌, ◌≤◌, length, [], ◌∷◌, OnErr};
 
 use chart_model::node::Node;
 
@@ -14,10 +14,11 @@ pub(crate) struct Listing<'a> {
 impl<'a> Listing<'a> {
     ghost use Rattle.chart.specs.Reading.{Lists, SameList};
 
-    // One node more, where there is room. It writes by index, since a write through `get_mut` was not proved.
+    // One node more, where there is room.
     pub(crate) fn push(&mut self, node: Node) -> Result<(), NoRoom>
         ensures lists { Lists (node ∷ []) self.old self.new result }
         ensures same { SameList self.old self.new }
+        ensures full { OnErr result (self.new.filled ≡ length self.new.nodes.now) }
     {
         if self.filled == self.nodes.len() {
             return Err(NoRoom);

@@ -1,9 +1,7 @@
 // What arrives at a table when a chart is opened: words and empty rules.
 ghost use Rattle.std.specs.Prelude.{◌≡◌, suc};
-ghost use Rattle.chart_model.specs.Plain.{arrive_all, gathered, word_brings, empty_brings, nodes_bring};
+ghost use Rattle.chart_model.specs.Plain.{gathered, word_brings, empty_brings, nodes_bring};
 ghost use Rattle.chart.specs.Bringing.{brought_by, Arrived};
-ghost use Rattle.chart.specs.Charts.{held};
-ghost use Rattle.chart.specs.View.{room};
 
 use crate::setting::Setting;
 use crate::table::Table;

@@ -1,5 +1,5 @@
 // Readings: the nodes of a finished edge, each before its children.
-ghost use Rattle.std.specs.Prelude.{◌≡◌, Some};
+ghost use Rattle.std.specs.Prelude.{◌≡◌, Some, length, OnErr};
 ghost use Rattle.std.specs.List.{slice_get};
 ghost use Rattle.std.specs.Option.{option_to_list};
 ghost use Rattle.chart_model.specs.Reading.{rule_at, reading_at};
@@ -69,6 +69,7 @@ impl<'a> FinishedAt<'a> {
     fn write_own(&self, listing: &mut Listing<'_>) -> Result<(), NoRoom>
         ensures lists { Lists (own_at (held self.now.table.now).places self.now.at) listing.old listing.new result }
         ensures same { SameList listing.old listing.new }
+        ensures full { OnErr result (listing.new.filled ≡ length listing.new.nodes.now) }
     {
         match self.own_node() {
             Some(node) => listing.push(node),
@@ -81,6 +82,7 @@ impl<'a> FinishedAt<'a> {
     pub(crate) fn walk(&self, listing: &mut Listing<'_>) -> Result<(), NoRoom>
         ensures lists { Lists (reading_at (held self.now.table.now).places self.now.at) listing.old listing.new result }
         ensures same { SameList listing.old listing.new }
+        ensures full { OnErr result (listing.new.filled ≡ length listing.new.nodes.now) }
     {
         let table = self.table;
         let place = self.place();

@@ -1,6 +1,6 @@
 // Steps of a table: an edge is finished, and what follows from it arrives.
 ghost use Rattle.std.specs.Prelude.{◌≡◌};
-ghost use Rattle.chart_model.specs.Plain.{arrive_all, gathered, rule_brings, place_brings, arrivals, step, step_answer, settled};
+ghost use Rattle.chart_model.specs.Plain.{place_brings, arrivals, step, step_answer, settled};
 ghost use Rattle.chart.specs.Bringing.{brought_by, NamesFinished, Arrived};
 ghost use Rattle.chart.specs.View.{room, Named};
 ghost use Rattle.chart.specs.Charts.{task_of, held};

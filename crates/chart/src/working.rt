@@ -48,7 +48,7 @@ impl<G: Grammar, L: Lattice, W: Weighing> WorkingChart<G, L, W> {
     }
 
     // The weight of a symbol over a stretch, if it is finished.
-    // A settled chart has these three lines too: one function for both would take both refusals as arguments.
+    // A settled chart asks likewise: one function for both would take both refusals as arguments.
     pub fn question(&self, phrase: Phrase) -> Result<u64, QuestionRefusal>
         ensures answer { told question_number result ≡ working_answer (task_of G.rules L.last L.words W.weights self.now.setting) (held self.now.table) phrase.symbol phrase.from phrase.to }
         ensures says { WorkingSays (task_of G.rules L.last L.words W.weights self.now.setting) (held self.now.table) phrase.symbol phrase.from phrase.to result }
