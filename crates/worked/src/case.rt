@@ -1,7 +1,8 @@
 // One case: what it shows, what should come out, and what does.
-ghost use Rattle.std.specs.Prelude.{◌≡◌, ◌↔◌, IsTrue};
+ghost use Rattle.std.specs.Prelude.{◌≡◌, ◌↔◌, IsTrue, Ok, Err, IsOkAnd, MatchOption, MatchResult};
+ghost use Rattle.worked.specs.Answers.{right};
 
-use records::numbered::{Numbered, Told};
+use records::numbered::Numbered;
 use std::fmt;
 
 // What a call answers: a number, or that it is refused, by the number of the refusal.
@@ -14,20 +15,30 @@ pub(crate) struct Case {
     pub(crate) got: Answer,
 }
 
-// A refusal of which only the number is known.
+// An answer as a line of the table tells it.
 #[derive(Clone, Copy, PartialEq, Eq, Debug)]
-pub(crate) struct Number(pub(crate) u8);
+struct Shown(Answer);
 
-impl Numbered for Number {
-    ghost number = { λ refusal. refusal.0 };
+impl fmt::Display for Shown {
+    ghost use Rattle.std.specs.Prelude.{Some};
+    ghost use Rattle.worked.specs.Telling.{answer_text};
 
-    fn number(self) -> u8 {
-        self.0
+    ghost output = { λ shown. Some (answer_text shown.0) };
+
+    fn fmt<W: fmt::Write>(&self, f: &mut fmt::Formatter<W>) -> fmt::Result {
+        match self.0 {
+            Ok(value) => write!(f, "{value}"),
+            Err(refusal) => write!(f, "refused {refusal}"),
+        }
     }
 }
 
 // A case, to be listed among others.
-pub(crate) fn shows(name: &'static str, expected: Answer, got: Answer) -> Case {
+pub(crate) fn shows(name: &'static str, expected: Answer, got: Answer) -> Case
+    ensures name { result.name.now ≡ name.now }
+    ensures expected { result.expected ≡ expected }
+    ensures got { result.got ≡ got }
+{
     Case {
         name,
         expected,
@@ -36,7 +47,9 @@ pub(crate) fn shows(name: &'static str, expected: Answer, got: Answer) -> Case {
 }
 
 // An answer by numbers.
-pub(crate) fn told<T: Into<u64>, N: Numbered>(answer: Result<T, N>) -> Answer {
+pub(crate) fn told<T: Into<u64>, N: Numbered>(answer: Result<T, N>) -> Answer
+    ensures { MatchResult answer (λ value. IsOkAnd result (T.converts value)) (λ refusal. result ≡ Err (N.number refusal)) }
+{
     match answer {
         Ok(value) => Ok(value.into()),
         Err(refusal) => Err(refusal.number()),
@@ -44,7 +57,9 @@ pub(crate) fn told<T: Into<u64>, N: Numbered>(answer: Result<T, N>) -> Answer {
 }
 
 // An answer that may be none, which is told as refusal 0: no refusal has that number.
-pub(crate) fn given<T: Into<u64>>(answer: Option<T>) -> Answer {
+pub(crate) fn given<T: Into<u64>>(answer: Option<T>) -> Answer
+    ensures { MatchOption answer (result ≡ Err 0) (λ value. IsOkAnd result (T.converts value)) }
+{
     match answer {
         Some(value) => Ok(value.into()),
         None => Err(0),
@@ -52,14 +67,17 @@ pub(crate) fn given<T: Into<u64>>(answer: Option<T>) -> Answer {
 }
 
 // The answer of a call that gives nothing back: 0, if it is not refused.
-pub(crate) fn done<N: Numbered>(answer: Result<(), N>) -> Answer {
+pub(crate) fn done<N: Numbered>(answer: Result<(), N>) -> Answer
+    ensures { result ≡ elim answer [ Ok _ ↦ Ok 0 | Err refusal ↦ Err (N.number refusal) ] }
+{
     told(answer.map(|()| 0_u64))
 }
 
 impl Case {
     // Whether what comes out is what should.
     pub(crate) fn is_right(&self) -> bool
-        ensures { IsTrue result ↔ (self.now.expected ≡ self.now.got) }
+        ensures same { IsTrue result ↔ (self.now.expected ≡ self.now.got) }
+        ensures right { result ≡ right self.now }
     {
         self.expected == self.got
     }
@@ -67,12 +85,17 @@ impl Case {
 
 // One line without its line feed.
 impl fmt::Display for Case {
+    ghost use Rattle.std.specs.Prelude.{Some};
+    ghost use Rattle.worked.specs.Telling.{case_text};
+
+    ghost output = { λ case. Some (case_text case) };
+
     fn fmt<W: fmt::Write>(&self, f: &mut fmt::Formatter<W>) -> fmt::Result {
         if self.is_right() {
             return write!(f, "ok {}", self.name);
         }
-        let expected = Told(self.expected.map_err(Number));
-        let got = Told(self.got.map_err(Number));
+        let expected = Shown(self.expected);
+        let got = Shown(self.got);
         write!(f, "WRONG {}: expected {expected}, got {got}", self.name)
     }
 }

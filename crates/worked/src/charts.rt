@@ -75,7 +75,7 @@ fn round() -> [Case; 3] {
     ]
 }
 
-// A symbol of two symbols, each of nothing: after two steps the second of them is still to come.
+// A symbol of two symbols, each of nothing: after two steps the nothing and the symbol begun with it are finished, and the whole is still to come.
 fn two_empties() -> [Case; 6] {
     let rules = [rule(5, 2, [6, 6, 0, 0], 1), rule(6, 0, [0, 0, 0, 0], 2)];
     let setting = Setting {

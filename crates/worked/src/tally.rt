@@ -1,4 +1,7 @@
 // How many cases there were, and how many of them came out as they should.
+ghost use Rattle.std.specs.Prelude.{◌≡◌, OnOk, fold};
+ghost use Rattle.worked.specs.Counting.{counted};
+
 use crate::case::Case;
 use std::{fmt, io};
 
@@ -10,7 +13,9 @@ pub(crate) struct Tally {
 
 impl Tally {
     // Counts a case.
-    fn count(&mut self, case: &Case) {
+    fn count(&mut self, case: &Case)
+        ensures { self.new ≡ counted self.old case.now }
+    {
         self.cases = self.cases.saturating_add(1);
         if case.is_right() {
             self.right = self.right.saturating_add(1);
@@ -18,7 +23,9 @@ impl Tally {
     }
 
     // Tells cases, a line for each, and counts them.
-    pub(crate) fn tell(&mut self, rt: &impl Print, cases: &[Case]) -> io::Result<()> {
+    pub(crate) fn tell(&mut self, rt: &impl Print, cases: &[Case]) -> io::Result<()>
+        ensures { OnOk result (self.new ≡ fold counted self.old cases.now) }
+    {
         for case in cases {
             self.count(case);
             println!(rt; "{case}")?;
@@ -29,6 +36,11 @@ impl Tally {
 
 // The last line of the table, without its line feed.
 impl fmt::Display for Tally {
+    ghost use Rattle.std.specs.Prelude.{Some};
+    ghost use Rattle.worked.specs.Telling.{tally_text};
+
+    ghost output = { λ tally. Some (tally_text tally) };
+
     fn fmt<W: fmt::Write>(&self, f: &mut fmt::Formatter<W>) -> fmt::Result {
         write!(
             f,
