@@ -20,7 +20,7 @@ mutual
     none : {i : ℕ} → i ≤ t.last → Row t [] i i
     more : {x : ℕ} {xs : List ℕ} {i j k : ℕ} → Tree t x i j → Row t xs j k → Row t (x ∷ xs) i k
 
--- a word weighs its mark; a rule starts with the weight of its own mark,
+-- a word weighs the weight of its mark; a rule starts with the weight of its own mark,
 -- and joins the weights of its children to it from left to right, the running weight first
 abbrev mutual
   pub tree_weight : {t : Task} {x i j : ℕ} → Tree t x i j → ℕ

@@ -110,7 +110,7 @@ abbrev pub due : ℕ → Option ℕ → ℕ
 due finished None = suc finished
 due finished (Some m) = m
 
--- a number that has been given
+-- no number yet, or one that has been given
 abbrev pub numbered : ℕ → Option ℕ → Bool
 numbered finished None = true
 numbered finished (Some m) = nat_lt 0 m && nat_le m finished

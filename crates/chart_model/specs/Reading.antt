@@ -14,7 +14,7 @@ use Rattle.chart_model.specs.declared.origin.Origin.TheVariants.{Word as FromWor
 use Rattle.chart_model.specs.declared.node.Node.{Node}
 use Rattle.chart_model.specs.declared.place.Place.{Place}
 
--- the rule of an active edge
+-- the rule of an active edge; 0 for a passive one, which is never asked for
 abbrev pub rule_of : Edge → ℕ
 rule_of (Passive x i j) = 0
 rule_of (Active n k i j) = n

@@ -30,10 +30,12 @@ pub record Stands (t : Task) (c : Chart) : Type 0 where
   -- no unfinished edge has a derivation lighter than a finished edge
   pub in_order : (e f : Edge) (w : ℕ) → Unfinished c e → Carries c f w → NoneLighter t e w
 
+-- edges that all differ
 abbrev pub AllApart : List Edge → Type 0
 AllApart [] = Unit {0}
 AllApart (e ∷ es) = ((f : Edge) (n : ℕ) → slice_get es n ≡ Some f → same_edge e f ≡ false) × AllApart es
 
+-- edges that all have derivations
 abbrev pub AllDerived : Task → List Edge → Type 0
 AllDerived t [] = Unit {0}
 AllDerived t (e ∷ es) = Derives t e × AllDerived t es

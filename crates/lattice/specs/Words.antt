@@ -20,7 +20,7 @@ forward from to = nat_lt from to
 abbrev pub word_within : ℕ → Word → Bool
 word_within last w = forward w.from w.to && (nat_le w.to last && nat_lt w.mark (2 ^ 16))
 
--- what such a word keeps to, one by one; only this knows the law of the two ends
+-- what such a word keeps to, one by one; whoever stands above reads the law of the two ends off this
 pub record WordLimits (last : ℕ) (w : Word) : Type 0 where
   pub forward : forward w.from w.to ≡ true
   pub ordered : w.from ≤ w.to

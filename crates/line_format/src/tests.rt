@@ -61,12 +61,6 @@ fn not_of_the_form(rt: HostRuntime) {
     }
 }
 
-// No list is passed that a refusal could change.
-#[test]
-fn a_refusal_keeps_the_list(rt: HostRuntime) {
-    assert_eq!(rt; read(b"1 2 3 4\n1 2 3\n"), Err(FormFault::NotOfTheForm));
-}
-
 #[test]
 fn most_lines(rt: HostRuntime) {
     let mut bytes: [u8; 1032] = from_fn(|at| b"0 1 2 3\n"[at % 8]);
