@@ -17,7 +17,5 @@ pub mod setting;
 pub mod settled;
 mod stepping;
 mod table;
-#[cfg(test)]
-mod tests;
 pub mod weigh;
 pub mod working;

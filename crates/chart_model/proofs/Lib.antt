@@ -21,5 +21,3 @@ pub mod Law
 pub mod Numbering
 pub mod Grounding
 pub mod Readings
-pub mod Worked
-pub mod WorkedReadings

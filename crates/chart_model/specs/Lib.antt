@@ -7,5 +7,3 @@ pub mod Stands
 pub mod Origins
 pub mod Reading
 pub mod Telling
-pub mod Worked
-pub mod WorkedReadings

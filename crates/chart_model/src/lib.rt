@@ -6,10 +6,6 @@ ghost use Rattle.chart_model.specs.Plain.{Chart};
 ghost use Rattle.chart_model.specs.Stands.{Reached, LawOfTheLightest};
 ghost use Rattle.chart_model.specs.Origins.{Grounded};
 ghost use Rattle.chart_model.specs.Reading.{LawOfReadings};
-ghost use Rattle.chart_model.specs.Worked.{AllComeOut, cases, two_boxes};
-ghost use Rattle.chart_model.specs.WorkedReadings.{AllRead, reading_cases};
-ghost use Rattle.weighing.specs.Weighings.{chance_weights};
-ghost use Rattle.grammar.specs.Count.{count_rules};
 
 pub mod edge;
 pub mod node;
@@ -29,15 +25,4 @@ pub fn origins_law()
 // What the origins of a finished symbol name lists a derivation of the weight that it carries, in every such chart.
 pub fn readings_law()
     ensures { (t : Task) → Sound t → LawOfReadings t }
-{}
-
-// The worked cases come out, and the laws are not empty: a worked line is what they ask for.
-pub fn worked_cases()
-    ensures come_out { AllComeOut cases }
-    ensures lawful { Sound (two_boxes count_rules chance_weights) }
-{}
-
-// The worked cases are read as they should be.
-pub fn worked_readings()
-    ensures { AllRead reading_cases }
 {}

@@ -4,15 +4,6 @@
 ghost use Rattle.std.specs.Prelude.{◌≡◌, List, length as list_length};
 ghost use Rattle.grammar.specs.Rules.{Rule, Limits, left_of, mark_of, length_of, right_of};
 
-pub mod checked;
-pub mod count;
-pub mod fault;
-pub mod list;
-pub mod rule;
-pub mod surcharge;
-#[cfg(test)]
-mod tests;
-
 // A grammar means a list of rules, numbered from 0. A question past the end answers none; asking changes nothing.
 pub trait Grammar {
     ghost rules: { Self → List Rule };

@@ -1,5 +1,5 @@
 -- Which words are refused, by which number, and in which order that is tested. Assumes nothing.
-use Rattle.std.specs.Prelude.{◌≡◌, ℕ, true, false, List, length, Some, None, Option, Result, nat_le}
+use Rattle.std.specs.Prelude.{◌≡◌, ℕ, true, false, List, Some, None, Option, Result, nat_le}
 use Rattle.std.specs.Option.{option_map}
 use Rattle.std.specs.Result.{result_err}
 use Rattle.records.specs.Lists.{list_refusal}
@@ -25,7 +25,3 @@ words_refusal ws = list_refusal most_words too_many_words word_refusal ws
 -- what the check of such a list tells (`Checked`), which is said there for all kinds of records
 pub check_tells_words : {A : Type 0} (xs : List Word) (r : Result A (ListFault WordFault)) → TellsRefusal most_words too_many_words word_number word_refusal xs r → option_map told (result_err r) ≡ words_refusal xs
 check_tells_words xs r tells = tells
-
--- 4 for a typed line with more bytes than the greatest node
-abbrev pub typed_refusal : List ℕ → Option ℕ
-typed_refusal bytes = elim (nat_le (length bytes) greatest_node) [ false ↦ Some 4 | true ↦ None ]

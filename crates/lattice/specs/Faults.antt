@@ -4,8 +4,6 @@ use Rattle.records.specs.declared.fault.ListFault.{ListFault}
 use Rattle.records.specs.Faults.{list_told}
 use Rattle.lattice.specs.declared.fault.WordFault.{WordFault}
 use Rattle.lattice.specs.declared.fault.WordFault.TheVariants.{NotForward, EndsTooLate}
-use Rattle.lattice.specs.declared.fault.TypedFault.{TypedFault}
-use Rattle.lattice.specs.declared.fault.TypedFault.TheVariants.{TooLong}
 
 abbrev pub word_number : WordFault → ℕ
 word_number NotForward = 1
@@ -18,6 +16,3 @@ too_many_words = 3
 -- the number of the refusal, and that of the word at fault where it is one
 abbrev pub told : ListFault WordFault → ℕ × Option ℕ
 told fault = list_told too_many_words word_number fault
-
-abbrev pub typed_number : TypedFault → ℕ
-typed_number TooLong = 4

@@ -9,7 +9,7 @@ use records::Record;
 use records::checked::Checked;
 
 // No lattice has a node past this one.
-pub(crate) const GREATEST_NODE: u8 = 31;
+pub const GREATEST_NODE: u8 = 31;
 
 impl Record for Word {
     type Fault = WordFault;

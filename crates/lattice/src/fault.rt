@@ -1,5 +1,5 @@
 // What is wrong with words that make no lattice. Each refusal has its number from one definition.
-ghost use Rattle.lattice.specs.Faults.{word_number, too_many_words, typed_number};
+ghost use Rattle.lattice.specs.Faults.{word_number, too_many_words};
 
 use records::fault::{ListFault, RecordFault};
 use records::numbered::Numbered;
@@ -28,17 +28,3 @@ impl RecordFault for WordFault {
 
 // What is wrong with a list of words: its length, or the first word at fault.
 pub type LatticeFault = ListFault<WordFault>;
-
-// What is wrong with a typed line.
-#[derive(Clone, Copy, PartialEq, Eq, Debug)]
-pub enum TypedFault {
-    TooLong = 4,
-}
-
-impl Numbered for TypedFault {
-    ghost number = { typed_number };
-
-    fn number(self) -> u8 {
-        self as u8
-    }
-}

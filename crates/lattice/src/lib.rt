@@ -8,10 +8,6 @@ ghost use Rattle.lattice.specs.Words.{Limits};
 
 pub mod checked;
 pub mod fault;
-pub mod heard;
-#[cfg(test)]
-mod tests;
-pub mod typed;
 pub mod word;
 
 use word::Word;

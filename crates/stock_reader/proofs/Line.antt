@@ -2,9 +2,9 @@
 use Rattle.std.proofs.Common.{◌≡◌, ℕ, ◌<◌, ◌≤◌, Bool, true, false, leb, List, [], ◌∷◌, ◌++◌, length, take, drop, Ok, Err, Result, sym, refl, ap, ◌∙◌, subst, arith}
 use Rattle.std.specs.Result.{result_map_both}
 use Rattle.std.proofs.lemmas.Bool.{leb-true}
-use Rattle.grammar.specs.Count.{line}
+use Rattle.grammars.specs.Count.{line}
 use Rattle.lattice.specs.declared.word.Word.{Word}
-use Rattle.lattice.specs.Heard.{largest_end}
+use Rattle.lattices.specs.Heard.{largest_end}
 use Rattle.chart_model.specs.Task.{Task}
 use Rattle.chart_model.specs.Listing.{tree_nodes}
 use Rattle.chart_model.specs.Plain.{Chart, settled_answer}

@@ -1,11 +1,11 @@
 -- What the line of a text is read as, or the number of its refusal: first its form, then its words, then its derivations. Assumes nothing.
 use Rattle.std.specs.Prelude.{◌≡◌, ℕ, ◌<◌, true, false, List, length, Some, None, Option, Ok, Err, Result, nat_le}
-use Rattle.weighing.specs.Weighings.{sum_weights}
-use Rattle.grammar.specs.Count.{line, count_rules}
+use Rattle.weighings.specs.Weighings.{sum_weights}
+use Rattle.grammars.specs.Count.{line, count_rules}
 use Rattle.lattice.specs.declared.word.Word.{Word}
 use Rattle.lattice.specs.Checking.{words_refusal}
 use Rattle.lattice.specs.Faults.{told}
-use Rattle.lattice.specs.Heard.{largest_end}
+use Rattle.lattices.specs.Heard.{largest_end}
 use Rattle.line_format.specs.Faults.{form_number}
 use Rattle.line_format.specs.Lines.{text_words}
 use Rattle.chart_model.specs.Task.{Task}

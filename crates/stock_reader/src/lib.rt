@@ -22,14 +22,14 @@ use chart::read::read;
 use chart::refusal::ReadingRefusal;
 use chart::setting::Setting;
 use chart_model::node::Node;
-use grammar::count::{CountGrammar, LINE};
+use grammars::count::{CountGrammar, LINE};
 use lattice::Lattice;
 use lattice::checked::CheckedWords;
-use lattice::heard::HeardLattice;
+use lattices::heard::HeardLattice;
 use line_format::text::read_words;
 use reading::{MOST_NODES, Reading};
 use refusal::Refusal;
-use weighing::sum::Sum;
+use weighings::sum::Sum;
 
 // Reads the lightest line over a whole lattice.
 fn read_lattice(lattice: HeardLattice) -> Result<Reading, ReadingRefusal>

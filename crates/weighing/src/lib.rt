@@ -4,12 +4,6 @@
 ghost use Rattle.std.specs.Prelude.{◌≡◌};
 ghost use Rattle.weighing.specs.Laws.{Weights, Lawful};
 
-pub mod chance;
-pub mod sum;
-#[cfg(test)]
-mod tests;
-pub mod worst;
-
 // A weighing means three functions on weights, which are codes of 64 bits. Asking changes nothing.
 pub trait Weighing {
     ghost weights: { Self → Weights };

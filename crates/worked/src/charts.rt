@@ -4,9 +4,9 @@ use crate::making::{heard, phrase, rule, ruled, typed, word};
 use crate::tally::Tally;
 use chart::setting::Setting;
 use chart::working::WorkingChart;
-use grammar::count::{BOX, CountGrammar, GAP, LINE, ONE, OPEN, TWO};
+use grammars::count::{BOX, CountGrammar, GAP, LINE, ONE, OPEN, TWO};
 use std::io;
-use weighing::sum::Sum;
+use weighings::sum::Sum;
 
 // Tells all cases of this theme.
 pub(crate) fn tell(rt: &impl Print, tally: &mut Tally) -> io::Result<()> {

@@ -1,12 +1,12 @@
 // Words, rules, lattices and grammars, made in a few words.
 use chart::phrase::Phrase;
-use grammar::checked::{CheckedRules, no_rules};
-use grammar::list::RuleList;
-use grammar::rule::RuleRecord;
+use grammars::checked::{CheckedRules, no_rules};
+use grammars::list::RuleList;
+use grammars::rule::RuleRecord;
 use lattice::checked::{CheckedWords, no_words};
-use lattice::heard::HeardLattice;
-use lattice::typed::TypedLine;
 use lattice::word::Word;
+use lattices::heard::HeardLattice;
+use lattices::typed::TypedLine;
 
 // A word between two nodes.
 pub(crate) fn word(from: u8, to: u8, symbol: u8, mark: u16) -> Word {

@@ -10,14 +10,14 @@ use chart::settled::SettledChart;
 use chart::working::WorkingChart;
 use chart_model::node::{Kind, Node};
 use grammar::Grammar;
-use grammar::count::{CountGrammar, LINE, PART};
-use grammar::rule::RuleRecord;
+use grammars::count::{CountGrammar, LINE, PART};
+use grammars::rule::RuleRecord;
 use lattice::Lattice;
-use lattice::heard::HeardLattice;
 use lattice::word::Word;
+use lattices::heard::HeardLattice;
 use std::io;
 use weighing::Weighing;
-use weighing::sum::Sum;
+use weighings::sum::Sum;
 
 // Tells all cases of this theme.
 pub(crate) fn tell(rt: &impl Print, tally: &mut Tally) -> io::Result<()> {

@@ -5,10 +5,10 @@ use crate::tally::Tally;
 use crate::two_boxes::words;
 use chart::setting::Setting;
 use chart::working::WorkingChart;
-use grammar::count::{CountGrammar, LINE, NUM, PART};
+use grammars::count::{CountGrammar, LINE, NUM, PART};
 use line_format::text::read_words;
 use std::io;
-use weighing::sum::Sum;
+use weighings::sum::Sum;
 
 // Tells all cases of this theme.
 pub(crate) fn tell(rt: &impl Print, tally: &mut Tally) -> io::Result<()> {

@@ -3,10 +3,10 @@ use crate::case::{Answer, Case, done, given, shows, told};
 use crate::making::rule;
 use crate::tally::Tally;
 use grammar::Grammar;
-use grammar::checked::{CheckedRules, no_rules};
-use grammar::fault::GrammarFault;
-use grammar::list::RuleList;
-use grammar::rule::RuleRecord;
+use grammars::checked::{CheckedRules, no_rules};
+use grammars::fault::GrammarFault;
+use grammars::list::RuleList;
+use grammars::rule::RuleRecord;
 use std::io;
 
 // Tells all cases of this theme.

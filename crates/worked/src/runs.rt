@@ -10,13 +10,13 @@ use chart::settled::SettledChart;
 use chart::working::WorkingChart;
 use chart_model::edge::Edge;
 use grammar::Grammar;
-use grammar::count::{BOX, CountGrammar, GAP, LINE, NUM, TWO};
+use grammars::count::{BOX, CountGrammar, GAP, LINE, NUM, TWO};
 use lattice::Lattice;
-use lattice::heard::HeardLattice;
 use lattice::word::Word;
+use lattices::heard::HeardLattice;
 use std::io;
 use weighing::Weighing;
-use weighing::sum::Sum;
+use weighings::sum::Sum;
 
 // Tells all cases of this theme.
 pub(crate) fn tell(rt: &impl Print, tally: &mut Tally) -> io::Result<()> {

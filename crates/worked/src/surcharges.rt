@@ -3,10 +3,10 @@ use crate::case::{Answer, Case, given, shows};
 use crate::tally::Tally;
 use crate::two_boxes::line_weight;
 use grammar::Grammar;
-use grammar::count::{CountGrammar, GAP, LINE, PART};
-use grammar::surcharge::Surcharge;
+use grammars::count::{CountGrammar, GAP, LINE, PART};
+use grammars::surcharge::Surcharge;
 use std::io;
-use weighing::sum::Sum;
+use weighings::sum::Sum;
 
 // Tells all cases of this theme.
 pub(crate) fn tell(rt: &impl Print, tally: &mut Tally) -> io::Result<()> {

@@ -6,14 +6,14 @@ use chart::setting::Setting;
 use chart::weigh::weigh;
 use chart::working::WorkingChart;
 use grammar::Grammar;
-use grammar::count::{BOX, CountGrammar, GAP, LINE, NUM, ONE, OPEN, PART, TWO};
-use grammar::surcharge::Surcharge;
+use grammars::count::{BOX, CountGrammar, GAP, LINE, NUM, ONE, OPEN, PART, TWO};
+use grammars::surcharge::Surcharge;
 use lattice::word::Word;
 use std::io;
 use weighing::Weighing;
-use weighing::chance::Chance;
-use weighing::sum::Sum;
-use weighing::worst::Worst;
+use weighings::chance::Chance;
+use weighings::sum::Sum;
+use weighings::worst::Worst;
 
 // Tells all cases of this theme.
 pub(crate) fn tell(rt: &impl Print, tally: &mut Tally) -> io::Result<()> {

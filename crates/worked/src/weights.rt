@@ -4,12 +4,12 @@ use crate::making::{heard, phrase, ruled, word};
 use crate::tally::Tally;
 use chart::setting::Setting;
 use chart::weigh::weigh;
-use grammar::count::{BOX, CountGrammar, LINE, ONE, OPEN, THREE, TWO};
+use grammars::count::{BOX, CountGrammar, LINE, ONE, OPEN, THREE, TWO};
 use std::io;
 use weighing::Weighing;
-use weighing::chance::Chance;
-use weighing::sum::Sum;
-use weighing::worst::Worst;
+use weighings::chance::Chance;
+use weighings::sum::Sum;
+use weighings::worst::Worst;
 
 // Tells all cases of this theme.
 pub(crate) fn tell(rt: &impl Print, tally: &mut Tally) -> io::Result<()> {

@@ -5,9 +5,9 @@ use crate::tally::Tally;
 use lattice::Lattice;
 use lattice::checked::{CheckedWords, no_words};
 use lattice::fault::LatticeFault;
-use lattice::heard::HeardLattice;
-use lattice::typed::TypedLine;
 use lattice::word::Word;
+use lattices::heard::HeardLattice;
+use lattices::typed::TypedLine;
 use std::io;
 
 // Tells all cases of this theme.

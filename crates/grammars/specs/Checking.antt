@@ -1,0 +1,23 @@
+-- Which rules are refused, by which number, and in which order that is tested. Assumes nothing.
+use Rattle.std.specs.Prelude.{◌≡◌, ℕ, true, false, List, Some, None, Option, Result, nat_le}
+use Rattle.std.specs.Option.{option_map}
+use Rattle.std.specs.Result.{result_err}
+use Rattle.records.specs.Lists.{list_refusal}
+use Rattle.records.specs.Faults.{TellsRefusal}
+use Rattle.records.specs.declared.fault.ListFault.{ListFault}
+use Rattle.grammars.specs.declared.rule.RuleRecord.{RuleRecord}
+use Rattle.grammars.specs.declared.fault.RuleFault.{RuleFault}
+use Rattle.grammars.specs.Faults.{too_many_rules, rule_number, told}
+use Rattle.grammar.specs.Rules.{most_rules, most_symbols}
+
+-- 5 for a rule that is too long
+abbrev pub rule_refusal : RuleRecord → Option ℕ
+rule_refusal r = elim (nat_le r.length most_symbols) [ false ↦ Some 5 | true ↦ None ]
+
+-- 6 for too many rules, before any rule is looked at; else the refusal of the first rule that has one, and its place
+abbrev pub rules_refusal : List RuleRecord → Option (ℕ × Option ℕ)
+rules_refusal rs = list_refusal most_rules too_many_rules rule_refusal rs
+
+-- what the check of such a list tells (`Checked`), which is said there for all kinds of records
+pub check_tells_rules : {A : Type 0} (xs : List RuleRecord) (r : Result A (ListFault RuleFault)) → TellsRefusal most_rules too_many_rules rule_number rule_refusal xs r → option_map told (result_err r) ≡ rules_refusal xs
+check_tells_rules xs r tells = tells

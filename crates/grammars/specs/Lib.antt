@@ -1,0 +1,5 @@
+pub mod Records
+pub mod Faults
+pub mod Checking
+pub mod Count
+pub mod Surcharges

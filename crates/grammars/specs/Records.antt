@@ -1,0 +1,37 @@
+-- The rules that records stand for, and that records within their limits make a grammar. Assumes nothing.
+use Rattle.std.specs.Prelude.{◌≡◌, ℕ, ◌^◌, ◌≤◌, min, Bool, true, ◌&&◌, List, map, length, take, nat_le, nat_lt}
+use Rattle.std.proofs.Common.{sym, subst, arith, length-take}
+use Rattle.std.proofs.lemmas.List.{length-map}
+use Rattle.std.proofs.lemmas.Bool.{and_parts, and_from, leb-true, le-leb}
+use Rattle.std.specs.List.{list_all}
+use Rattle.records.proofs.Every.{every_map}
+use Rattle.grammars.specs.declared.rule.RuleRecord.{RuleRecord}
+use Rattle.grammar.specs.Rules.{Rule, most_rules, most_symbols, rule_within, Limits}
+
+-- symbols past the length are ignored
+abbrev pub rule_of : RuleRecord → Rule
+rule_of r = record { left = r.left; right = take r.length r.symbols; mark = r.mark }
+
+abbrev pub rules_of : List RuleRecord → List Rule
+rules_of rs = map rule_of rs
+
+-- a record is no longer than a rule may be, and its mark has 16 bits
+abbrev pub record_within : RuleRecord → Bool
+record_within r = nat_le r.length most_symbols && nat_lt r.mark (2 ^ 16)
+
+abbrev pub records_within : List RuleRecord → Bool
+records_within rs = list_all record_within rs
+
+rule_limits : (r : RuleRecord) → record_within r ≡ true → rule_within (rule_of r) ≡ true
+rule_limits r h =
+    let p = and_parts (nat_le r.length most_symbols) (nat_lt r.mark (2 ^ 16)) h in
+    let long : r.length ≤ most_symbols = leb-true r.length most_symbols p.0 in
+    let e : length (take r.length r.symbols) ≡ min r.length (length r.symbols) = length-take r.length r.symbols in
+    and_from (nat_le (length (take r.length r.symbols)) most_symbols) (nat_lt r.mark (2 ^ 16)) (le-leb (length (take r.length r.symbols)) most_symbols (omega arith)) p.1
+
+pub records_limits : (rs : List RuleRecord) → length rs ≤ most_rules → records_within rs ≡ true → Limits (rules_of rs)
+records_limits rs few within =
+    record {
+      few = subst (λ (n : ℕ). n ≤ most_rules) (sym (length-map rs rule_of)) few;
+      within = every_map rule_of record_within rule_within rule_limits rs within;
+    }

@@ -1,0 +1,29 @@
+// What is wrong with rules that make no grammar. Each refusal has its number from one definition.
+ghost use Rattle.grammars.specs.Faults.{rule_number, too_many_rules};
+
+use records::fault::{ListFault, RecordFault};
+use records::numbered::Numbered;
+
+// What is wrong with one rule.
+#[derive(Clone, Copy, PartialEq, Eq, Debug)]
+pub enum RuleFault {
+    TooLong = 5,
+}
+
+// A case is its number. Each enum casts itself, since a cast of a type parameter is no Rust.
+impl Numbered for RuleFault {
+    ghost number = { rule_number };
+
+    fn number(self) -> u8 {
+        self as u8
+    }
+}
+
+impl RecordFault for RuleFault {
+    ghost TOO_MANY = { too_many_rules };
+
+    const TOO_MANY: u8 = 6;
+}
+
+// What is wrong with a list of rules: its length, or the first rule at fault.
+pub type GrammarFault = ListFault<RuleFault>;

@@ -1,0 +1,11 @@
+// The grammars there are: over a caller's rules, the built-in stock counts, and a surcharge over any grammar.
+#![tactic(auto)]
+
+pub mod checked;
+pub mod count;
+pub mod fault;
+pub mod list;
+pub mod rule;
+pub mod surcharge;
+#[cfg(test)]
+mod tests;

@@ -1,0 +1,2 @@
+pub mod Weighings
+pub mod Chances

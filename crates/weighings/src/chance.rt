@@ -1,0 +1,37 @@
+// The weighing that multiplies chances.
+ghost use Rattle.std.specs.Prelude.{◌≡◌, ◌-◌, ◌*◌, nat_lt};
+ghost use Rattle.weighings.specs.Weighings.{chance_weights, chance_join};
+ghost use Rattle.weighings.specs.Chances.{chance_lawful};
+
+use weighing::Weighing;
+
+// The code of certainty; others are parts of it.
+const CERTAIN: u64 = 2_147_483_648;
+
+// A chance in 2,147,483,648th parts of certainty.
+#[derive(Clone, Copy, PartialEq, Eq, Debug, Default)]
+pub struct Chance;
+
+impl Weighing for Chance {
+    ghost weights = { λ _. chance_weights };
+
+    ghost lawful = { λ w. chance_lawful };
+
+    fn weigh(&self, mark: u16) -> u64
+        ensures { result ≡ (65536 - mark) * 32768 }
+    {
+        (65_536 - u64::from(mark)) * 32_768
+    }
+
+    fn join(&self, a: u64, b: u64) -> u64
+        ensures { result ≡ chance_join a b }
+    {
+        a.min(CERTAIN) * b.min(CERTAIN) / CERTAIN
+    }
+
+    fn is_lighter(&self, a: u64, b: u64) -> bool
+        ensures { result ≡ nat_lt b a }
+    {
+        a > b
+    }
+}

@@ -1,0 +1,8 @@
+// The weighings there are: doubts added up, the worst doubt, and chances multiplied.
+#![tactic(auto)]
+
+pub mod chance;
+pub mod sum;
+#[cfg(test)]
+mod tests;
+pub mod worst;

@@ -1,0 +1,146 @@
+-- Worked cases: small tasks, and what a chart with room for 1,024 edges comes to on them. Assumes nothing.
+use Rattle.std.specs.Prelude.{◌≡◌, ℕ, List, [], ◌∷◌, length, map, Ok, Err, Result, refl}
+use Rattle.std.proofs.Common.{lit≤}
+use Rattle.weighing.specs.Laws.{Weights}
+use Rattle.weighings.specs.Weighings.{sum_weights, worst_weights, chance_weights}
+use Rattle.grammar.specs.Rules.{Rule}
+use Rattle.grammars.specs.Count.{line, part, gap, one, two, box, opened, rewrites, count_rules}
+use Rattle.grammars.specs.Surcharges.{surcharged}
+use Rattle.lattice.specs.declared.word.Word.{Word}
+use Rattle.lattices.specs.Heard.{largest_end}
+use Rattle.lattices.specs.Typed.{typed_words}
+use Rattle.chart_model.specs.Task.{Task}
+use Rattle.chart_model.specs.Derivation.{Tree, word, rule, none, more, tree_weight}
+use Rattle.chart_model.specs.Listing.{node, tree_nodes}
+use Rattle.chart_model.specs.Plain.{Chart, step_answer, settled, working_answer, settled_answer}
+use Rattle.chart_model.specs.Reading.{reading}
+use Rattle.chart_model.specs.Stands.{after}
+use Rattle.chart_model.specs.declared.edge.Edge.TheVariants.{Passive}
+use Rattle.chart_model.specs.declared.node.Kind.TheVariants.{Word as Heard, Rule as ByRule}
+use Rattle.chart_model.specs.declared.node.Node.{Node}
+use Rattle.chart_model.specs.declared.origin.Origin.{Origin}
+use Rattle.chart_model.specs.declared.origin.Origin.TheVariants.{Word as FromWord, First}
+
+-- TASKS
+
+abbrev pub heard : ℕ → ℕ → ℕ → ℕ → Word
+heard from to symbol mark = record { from = from; to = to; symbol = symbol; mark = mark }
+
+abbrev pub over_words : List Rule → List Word → Weights → Task
+over_words rules words weights = record { rules = rules; last = largest_end words; words = words; weights = weights }
+
+abbrev pub over_bytes : List Rule → List ℕ → Weights → Task
+over_bytes rules bytes weights = record { rules = rules; last = length bytes; words = typed_words bytes; weights = weights }
+
+-- "two box open one"
+abbrev pub two_boxes : List Rule → Weights → Task
+two_boxes rules weights = over_words rules (heard 0 1 two 10 ∷ heard 1 2 box 20 ∷ heard 2 3 opened 30 ∷ heard 3 4 one 40 ∷ []) weights
+
+-- the lighter derivation: two boxes, and one that is open
+abbrev pub one_open : Tree (two_boxes count_rules sum_weights) line 0 4
+one_open =
+    rule 1 _ refl
+    (more (rule 0 _ refl (more (rule 2 _ refl (more (rule 7 _ refl (more (word 0 _ refl) (none (lit≤ tt)))) (more (word 1 _ refl) (none (lit≤ tt))))) (none (lit≤ tt))))
+    (more (rule 9 _ refl (none (lit≤ tt)))
+    (more (rule 3 _ refl (more (word 2 _ refl) (more (rule 6 _ refl (more (word 3 _ refl) (none (lit≤ tt)))) (none (lit≤ tt)))))
+    (none (lit≤ tt)))))
+
+-- its rival: two open boxes, and one more
+abbrev pub two_open : Tree (two_boxes count_rules sum_weights) line 0 4
+two_open =
+    rule 1 _ refl
+    (more (rule 0 _ refl (more (rule 4 _ refl (more (rule 7 _ refl (more (word 0 _ refl) (none (lit≤ tt)))) (more (word 1 _ refl) (more (word 2 _ refl) (none (lit≤ tt)))))) (none (lit≤ tt))))
+    (more (rule 9 _ refl (none (lit≤ tt)))
+    (more (rule 5 _ refl (more (rule 6 _ refl (more (word 3 _ refl) (none (lit≤ tt)))) (none (lit≤ tt))))
+    (none (lit≤ tt)))))
+
+abbrev pub no_words : Task
+no_words = over_words count_rules [] sum_weights
+
+-- a symbol that derives itself
+abbrev pub round : Task
+round = over_words (rewrites 5 (5 ∷ []) 0 ∷ rewrites 5 (9 ∷ []) 7 ∷ []) (heard 0 1 9 5 ∷ []) sum_weights
+
+-- a symbol of two symbols, each of nothing
+abbrev pub two_empties : Task
+two_empties = over_bytes (rewrites 5 (6 ∷ 6 ∷ []) 1 ∷ rewrites 6 [] 2 ∷ []) [] sum_weights
+
+-- one word heard twice, with these marks
+abbrev pub echo : ℕ → ℕ → Task
+echo first second = over_words [] (heard 0 1 9 first ∷ heard 0 1 9 second ∷ []) sum_weights
+
+-- CASES
+
+pub data Case : Type 0 where
+  -- what a settled chart answers about a symbol over a stretch
+  settles : Task → ℕ → ℕ → ℕ → Result ℕ ℕ → Case
+  -- which nodes a settled chart reads for it
+  reads : Task → ℕ → ℕ → ℕ → List Node → Case
+  -- what a working chart answers after so many steps
+  works : Task → ℕ → ℕ → ℕ → ℕ → Result ℕ ℕ → Case
+  -- what the step after so many answers
+  steps_on : Task → ℕ → Result ℕ ℕ → Case
+  -- where the weights of a settled chart come from, place by place
+  comes_from : Task → List Origin → Case
+  -- what a derivation weighs
+  weighs : {t : Task} {x i j : ℕ} → Tree t x i j → ℕ → Case
+  -- what a weight is
+  amounts : ℕ → ℕ → Case
+
+abbrev pub room : ℕ
+room = 1024
+
+-- the chart of a task, settled
+abbrev pub ended : Task → Chart
+ended t = settled t room (after t room 0)
+
+abbrev pub ComesOut : Case → Type 0
+ComesOut (settles t x i j answer) = settled_answer t (ended t) x i j ≡ answer
+ComesOut (reads t x i j nodes) = reading (ended t).places (Passive x i j) ≡ nodes
+ComesOut (works t n x i j answer) = working_answer t (after t room n) x i j ≡ answer
+ComesOut (steps_on t n answer) = step_answer t room (after t room n) ≡ answer
+ComesOut (comes_from t origins) = map (λ p. p.origin) (ended t).places ≡ origins
+ComesOut (weighs derivation weight) = tree_weight derivation ≡ weight
+ComesOut (amounts a b) = a ≡ b
+
+abbrev pub cases : List Case
+cases =
+    -- two boxes, open one: the lighter of two derivations
+    settles (two_boxes count_rules sum_weights) line 0 4 (Ok 109)
+    ∷ weighs one_open 109
+    ∷ weighs two_open 117
+    ∷ reads (two_boxes count_rules sum_weights) line 0 4 (tree_nodes one_open)
+    ∷ reads (two_boxes count_rules sum_weights) line 0 4 (
+    node ByRule 1 0 4 ∷ node ByRule 0 0 2 ∷ node ByRule 2 0 2 ∷ node ByRule 7 0 1 ∷ node Heard 0 0 1 ∷ node Heard 1 1 2
+    ∷ node ByRule 9 2 2 ∷ node ByRule 3 2 4 ∷ node Heard 2 2 3 ∷ node ByRule 6 3 4 ∷ node Heard 3 3 4 ∷ [])
+    -- by the worst mark alone
+    ∷ settles (two_boxes count_rules worst_weights) line 0 4 (Ok 40)
+    -- by the chance that all marks leave
+    ∷ settles (two_boxes count_rules chance_weights) line 0 4 (Ok 2143914145)
+    -- with two parts, each 20 dearer
+    ∷ settles (two_boxes (surcharged part 20 count_rules) sum_weights) line 0 4 (Ok 149)
+    -- without words there is a gap of nothing, and no line; one step, and then nothing is open
+    ∷ settles no_words gap 0 0 (Ok 0)
+    ∷ settles no_words line 0 0 (Err 9)
+    ∷ steps_on no_words 0 (Ok 1)
+    ∷ steps_on no_words 1 (Err 11)
+    -- round and round is never lighter: 5 comes by its second rule, from the word
+    ∷ settles round 5 0 1 (Ok 12)
+    ∷ comes_from round (FromWord 0 ∷ First 1 0 ∷ [])
+    ∷ reads round 5 0 1 (node ByRule 1 0 1 ∷ node Heard 0 0 1 ∷ [])
+    -- the empty symbol, the rule with the first of the two, and then the symbol of both
+    ∷ works two_empties 2 5 0 0 (Err 8)
+    ∷ works two_empties 3 5 0 0 (Ok 5)
+    ∷ reads two_empties 5 0 0 (node ByRule 0 0 0 ∷ node ByRule 1 0 0 ∷ node ByRule 1 0 0 ∷ [])
+    -- the lighter word counts, and among equals the first
+    ∷ settles (echo 9 4) 9 0 1 (Ok 4)
+    ∷ comes_from (echo 9 4) (FromWord 1 ∷ [])
+    ∷ reads (echo 9 4) 9 0 1 (node Heard 1 0 1 ∷ [])
+    ∷ settles (echo 4 4) 9 0 1 (Ok 4)
+    ∷ comes_from (echo 4 4) (FromWord 0 ∷ [])
+    ∷ reads (echo 4 4) 9 0 1 (node Heard 0 0 1 ∷ [])
+    -- half a chance, half of a half, and next to none twice
+    ∷ amounts (chance_weights.weigh 32768) 1073741824
+    ∷ amounts (chance_weights.join 1073741824 1073741824) 536870912
+    ∷ amounts (chance_weights.join (chance_weights.weigh 65535) (chance_weights.weigh 65535)) 0
+    ∷ []
