@@ -1,10 +1,10 @@
--- Worked cases: small tasks, and what a chart with room for 1,024 edges comes to on them. Assumes nothing.
-use Rattle.std.specs.Prelude.{◌≡◌, ℕ, List, [], ◌∷◌, length, map, Ok, Err, Result, refl}
+-- Worked cases: small tasks, and what a chart with room for 1,024 edges makes of them. Assumes nothing.
+use Rattle.std.specs.Prelude.{◌≡◌, ℕ, ◌≤◌, List, [], ◌∷◌, length, map, Ok, Err, Result, refl}
 use Rattle.std.proofs.Common.{lit≤}
 use Rattle.weighing.specs.Laws.{Weights}
 use Rattle.weighings.specs.Weighings.{sum_weights, worst_weights, chance_weights}
 use Rattle.grammar.specs.Rules.{Rule}
-use Rattle.grammars.specs.Count.{line, part, gap, one, two, box, opened, rewrites, count_rules}
+use Rattle.grammars.specs.Count.{line, part, num, gap, one, two, box, opened, rewrites, count_rules}
 use Rattle.grammars.specs.Surcharges.{surcharged}
 use Rattle.lattice.specs.declared.word.Word.{Word}
 use Rattle.lattices.specs.Heard.{largest_end}
@@ -27,47 +27,68 @@ abbrev pub heard : ℕ → ℕ → ℕ → ℕ → Word
 heard from to symbol mark = record { from = from; to = to; symbol = symbol; mark = mark }
 
 abbrev pub over_words : List Rule → List Word → Weights → Task
-over_words rules words weights = record { rules = rules; last = largest_end words; words = words; weights = weights }
+over_words rules words weights =
+    record { rules = rules; last = largest_end words; words = words; weights = weights }
 
 abbrev pub over_bytes : List Rule → List ℕ → Weights → Task
-over_bytes rules bytes weights = record { rules = rules; last = length bytes; words = typed_words bytes; weights = weights }
+over_bytes rules bytes weights =
+    record { rules = rules; last = length bytes; words = typed_words bytes; weights = weights }
 
 -- "two box open one"
 abbrev pub two_boxes : List Rule → Weights → Task
-two_boxes rules weights = over_words rules (heard 0 1 two 10 ∷ heard 1 2 box 20 ∷ heard 2 3 opened 30 ∷ heard 3 4 one 40 ∷ []) weights
-
--- the lighter derivation: two boxes, and one that is open
-abbrev pub one_open : Tree (two_boxes count_rules sum_weights) line 0 4
-one_open =
-    rule 1 _ refl
-    (more (rule 0 _ refl (more (rule 2 _ refl (more (rule 7 _ refl (more (word 0 _ refl) (none (lit≤ tt)))) (more (word 1 _ refl) (none (lit≤ tt))))) (none (lit≤ tt))))
-    (more (rule 9 _ refl (none (lit≤ tt)))
-    (more (rule 3 _ refl (more (word 2 _ refl) (more (rule 6 _ refl (more (word 3 _ refl) (none (lit≤ tt)))) (none (lit≤ tt)))))
-    (none (lit≤ tt)))))
-
--- its rival: two open boxes, and one more
-abbrev pub two_open : Tree (two_boxes count_rules sum_weights) line 0 4
-two_open =
-    rule 1 _ refl
-    (more (rule 0 _ refl (more (rule 4 _ refl (more (rule 7 _ refl (more (word 0 _ refl) (none (lit≤ tt)))) (more (word 1 _ refl) (more (word 2 _ refl) (none (lit≤ tt)))))) (none (lit≤ tt))))
-    (more (rule 9 _ refl (none (lit≤ tt)))
-    (more (rule 5 _ refl (more (rule 6 _ refl (more (word 3 _ refl) (none (lit≤ tt)))) (none (lit≤ tt))))
-    (none (lit≤ tt)))))
+two_boxes rules weights =
+    over_words rules (heard 0 1 two 10 ∷ heard 1 2 box 20 ∷ heard 2 3 opened 30 ∷ heard 3 4 one 40 ∷ []) weights
 
 abbrev pub no_words : Task
 no_words = over_words count_rules [] sum_weights
 
 -- a symbol that derives itself
 abbrev pub round : Task
-round = over_words (rewrites 5 (5 ∷ []) 0 ∷ rewrites 5 (9 ∷ []) 7 ∷ []) (heard 0 1 9 5 ∷ []) sum_weights
+round =
+    over_words (rewrites 5 (5 ∷ []) 0 ∷ rewrites 5 (9 ∷ []) 7 ∷ []) (heard 0 1 9 5 ∷ []) sum_weights
 
 -- a symbol of two symbols, each of nothing
 abbrev pub two_empties : Task
-two_empties = over_bytes (rewrites 5 (6 ∷ 6 ∷ []) 1 ∷ rewrites 6 [] 2 ∷ []) [] sum_weights
+two_empties =
+    over_bytes (rewrites 5 (6 ∷ 6 ∷ []) 1 ∷ rewrites 6 [] 2 ∷ []) [] sum_weights
 
 -- one word heard twice, with these marks
 abbrev pub echo : ℕ → ℕ → Task
 echo first second = over_words [] (heard 0 1 9 first ∷ heard 0 1 9 second ∷ []) sum_weights
+
+-- DERIVATIONS of "two box open one" by the stock counts, with doubts added up
+
+abbrev pub count_line : Task
+count_line = two_boxes count_rules sum_weights
+
+-- "two", "one", and the nothing between two parts
+abbrev number_two : Tree count_line num 0 1
+number_two = rule 7 _ refl (more (word 0 _ refl) (none (lit≤ tt)))
+
+abbrev number_one : Tree count_line num 3 4
+number_one = rule 6 _ refl (more (word 3 _ refl) (none (lit≤ tt)))
+
+abbrev gap_at : (i : ℕ) → i ≤ 4 → Tree count_line gap i i
+gap_at i within = rule 9 _ refl (none within)
+
+-- a line of two parts, with nothing between them
+abbrev two_parts : {i : ℕ} → i ≤ 4 → Tree count_line part 0 i → Tree count_line part i 4 → Tree count_line line 0 4
+two_parts {i} within first second =
+    rule 1 _ refl (more (rule 0 _ refl (more first (none within))) (more (gap_at i within) (more second (none (lit≤ tt)))))
+
+-- two boxes, and an open one
+abbrev pub one_open : Tree count_line line 0 4
+one_open =
+    two_parts (lit≤ tt)
+    (rule 2 _ refl (more number_two (more (word 1 _ refl) (none (lit≤ tt)))))
+    (rule 3 _ refl (more (word 2 _ refl) (more number_one (none (lit≤ tt)))))
+
+-- its rival: two open boxes, and one more
+abbrev pub two_open : Tree count_line line 0 4
+two_open =
+    two_parts (lit≤ tt)
+    (rule 4 _ refl (more number_two (more (word 1 _ refl) (more (word 2 _ refl) (none (lit≤ tt))))))
+    (rule 5 _ refl (more number_one (none (lit≤ tt))))
 
 -- CASES
 
@@ -91,28 +112,29 @@ abbrev pub room : ℕ
 room = 1024
 
 -- the chart of a task, settled
-abbrev pub ended : Task → Chart
-ended t = settled t room (after t room 0)
+abbrev pub final_chart : Task → Chart
+final_chart t = settled t room (after t room 0)
 
 abbrev pub ComesOut : Case → Type 0
-ComesOut (settles t x i j answer) = settled_answer t (ended t) x i j ≡ answer
-ComesOut (reads t x i j nodes) = reading (ended t).places (Passive x i j) ≡ nodes
+ComesOut (settles t x i j answer) = settled_answer t (final_chart t) x i j ≡ answer
+ComesOut (reads t x i j nodes) = reading (final_chart t).places (Passive x i j) ≡ nodes
 ComesOut (works t n x i j answer) = working_answer t (after t room n) x i j ≡ answer
 ComesOut (steps_on t n answer) = step_answer t room (after t room n) ≡ answer
-ComesOut (comes_from t origins) = map (λ p. p.origin) (ended t).places ≡ origins
+ComesOut (comes_from t origins) = map (λ p. p.origin) (final_chart t).places ≡ origins
 ComesOut (weighs derivation weight) = tree_weight derivation ≡ weight
 ComesOut (amounts a b) = a ≡ b
 
 abbrev pub cases : List Case
 cases =
     -- two boxes, open one: the lighter of two derivations
-    settles (two_boxes count_rules sum_weights) line 0 4 (Ok 109)
+    settles count_line line 0 4 (Ok 109)
     ∷ weighs one_open 109
     ∷ weighs two_open 117
-    ∷ reads (two_boxes count_rules sum_weights) line 0 4 (tree_nodes one_open)
-    ∷ reads (two_boxes count_rules sum_weights) line 0 4 (
-    node ByRule 1 0 4 ∷ node ByRule 0 0 2 ∷ node ByRule 2 0 2 ∷ node ByRule 7 0 1 ∷ node Heard 0 0 1 ∷ node Heard 1 1 2
-    ∷ node ByRule 9 2 2 ∷ node ByRule 3 2 4 ∷ node Heard 2 2 3 ∷ node ByRule 6 3 4 ∷ node Heard 3 3 4 ∷ [])
+    ∷ reads count_line line 0 4 (tree_nodes one_open)
+    ∷ reads count_line line 0 4 (
+    node ByRule 1 0 4 ∷ node ByRule 0 0 2 ∷ node ByRule 2 0 2 ∷ node ByRule 7 0 1
+    ∷ node Heard 0 0 1 ∷ node Heard 1 1 2 ∷ node ByRule 9 2 2 ∷ node ByRule 3 2 4
+    ∷ node Heard 2 2 3 ∷ node ByRule 6 3 4 ∷ node Heard 3 3 4 ∷ [])
     -- by the worst mark alone
     ∷ settles (two_boxes count_rules worst_weights) line 0 4 (Ok 40)
     -- by the chance that all marks leave
