@@ -18,10 +18,12 @@ word_refusal w =
       | true ↦ elim (nat_le w.to greatest_node) [ false ↦ Some 2 | true ↦ None ]
     ]
 
--- 3 for too many words, before any word is looked at; else the refusal of the first word that has one, and its place
+-- 3 for too many words, before any is looked at; else the refusal of the first word that has one, and its place
 abbrev pub words_refusal : List Word → Option (ℕ × Option ℕ)
 words_refusal ws = list_refusal most_words too_many_words word_refusal ws
 
 -- what the check of such a list tells (`Checked`), which is said there for all kinds of records
-pub check_tells_words : {A : Type 0} (xs : List Word) (r : Result A (ListFault WordFault)) → TellsRefusal most_words too_many_words word_number word_refusal xs r → option_map told (result_err r) ≡ words_refusal xs
+pub check_tells_words : {A : Type 0} (xs : List Word) (r : Result A (ListFault WordFault)) →
+    TellsRefusal most_words too_many_words word_number word_refusal xs r →
+    option_map told (result_err r) ≡ words_refusal xs
 check_tells_words xs r tells = tells

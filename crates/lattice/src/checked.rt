@@ -8,7 +8,7 @@ use crate::word::Word;
 use records::Record;
 use records::checked::Checked;
 
-// No lattice has a node past this one.
+/// No lattice has a node past this one.
 pub const GREATEST_NODE: u8 = 31;
 
 impl Record for Word {
@@ -33,10 +33,12 @@ impl Record for Word {
     }
 }
 
-// Words that were checked.
+/// Words that were checked: at most 128, each running forward between nodes 0 to 31.
 pub type CheckedWords<'a> = Checked<'a, Word>;
 
-// No words yet. It is no `Default` of all checked lists: its must-fail edit puts a word in, which a body for all kinds cannot name.
+// It is no `Default` of all checked lists: its must-fail edit puts a word in, which a body for all kinds
+// cannot name.
+/// No words yet.
 pub fn no_words<'a>() -> CheckedWords<'a>
     ensures { result.records.now ≡ [] }
 {

@@ -4,10 +4,12 @@ ghost use Rattle.lattice.specs.Faults.{word_number, too_many_words};
 use records::fault::{ListFault, RecordFault};
 use records::numbered::Numbered;
 
-// What is wrong with one word.
+/// What is wrong with one word.
 #[derive(Clone, Copy, PartialEq, Eq, Debug)]
 pub enum WordFault {
+    /// 1: it does not end after it starts.
     NotForward = 1,
+    /// 2: it ends past node 31.
     EndsTooLate = 2,
 }
 
@@ -26,5 +28,5 @@ impl RecordFault for WordFault {
     const TOO_MANY: u8 = 3;
 }
 
-// What is wrong with a list of words: its length, or the first word at fault.
+/// What is wrong with a list of words: 3 for more than 128, or else the first word at fault, from 0.
 pub type LatticeFault = ListFault<WordFault>;

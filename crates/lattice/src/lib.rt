@@ -12,7 +12,7 @@ pub mod word;
 
 use word::Word;
 
-// A lattice means a last node and a list of words, numbered from 0. Asking changes nothing.
+/// A lattice means a last node, at most 31, and a list of at most 128 words, numbered from 0. Asking changes nothing.
 pub trait Lattice {
     ghost last: { Self → ℕ };
 
@@ -21,15 +21,15 @@ pub trait Lattice {
     // The limits, which each lattice shows of itself.
     ghost limits: { (l : Self) → Limits (last l) (words l) };
 
-    // The last node.
+    /// The last node.
     fn last_node(&self) -> u8
         ensures { result ≡ last self.now };
 
-    // How many words there are.
+    /// How many words there are.
     fn len(&self) -> usize
         ensures { result ≡ length (words self.now) };
 
-    // A word by its number; none past the end.
+    /// A word by its number; none past the end.
     fn word(&self, n: usize) -> Option<Word>
         ensures { result ≡ slice_get (words self.now) n };
 }
