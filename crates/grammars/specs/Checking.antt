@@ -14,10 +14,12 @@ use Rattle.grammar.specs.Rules.{most_rules, most_symbols}
 abbrev pub rule_refusal : RuleRecord → Option ℕ
 rule_refusal r = elim (nat_le r.length most_symbols) [ false ↦ Some 5 | true ↦ None ]
 
--- 6 for too many rules, before any rule is looked at; else the refusal of the first rule that has one, and its place
+-- 6 for too many rules, before any is looked at; else the refusal of the first rule that has one, and its place
 abbrev pub rules_refusal : List RuleRecord → Option (ℕ × Option ℕ)
 rules_refusal rs = list_refusal most_rules too_many_rules rule_refusal rs
 
 -- what the check of such a list tells (`Checked`), which is said there for all kinds of records
-pub check_tells_rules : {A : Type 0} (xs : List RuleRecord) (r : Result A (ListFault RuleFault)) → TellsRefusal most_rules too_many_rules rule_number rule_refusal xs r → option_map told (result_err r) ≡ rules_refusal xs
+pub check_tells_rules : {A : Type 0} (xs : List RuleRecord) (r : Result A (ListFault RuleFault)) →
+    TellsRefusal most_rules too_many_rules rule_number rule_refusal xs r →
+    option_map told (result_err r) ≡ rules_refusal xs
 check_tells_rules xs r tells = tells

@@ -3,3 +3,4 @@ pub mod Faults
 pub mod Checking
 pub mod Count
 pub mod Surcharges
+pub mod Meaning

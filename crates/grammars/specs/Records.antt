@@ -1,8 +1,8 @@
 -- The rules that records stand for, and that records within their limits make a grammar. Assumes nothing.
-use Rattle.std.specs.Prelude.{◌≡◌, ℕ, ◌^◌, ◌≤◌, min, Bool, true, ◌&&◌, List, map, length, take, nat_le, nat_lt}
-use Rattle.std.proofs.Common.{sym, subst, arith, length-take}
+use Rattle.std.specs.Prelude.{◌≡◌, ◌^◌, ◌≤◌, Bool, true, ◌&&◌, List, map, length, take, nat_le, nat_lt}
+use Rattle.std.proofs.Common.{arith, length-take}
 use Rattle.std.proofs.lemmas.List.{length-map}
-use Rattle.std.proofs.lemmas.Bool.{and_parts, and_from, leb-true, le-leb}
+use Rattle.std.proofs.lemmas.Grind.{common_steps}
 use Rattle.std.specs.List.{list_all}
 use Rattle.records.proofs.Every.{every_map}
 use Rattle.grammars.specs.declared.rule.RuleRecord.{RuleRecord}
@@ -23,15 +23,12 @@ abbrev pub records_within : List RuleRecord → Bool
 records_within rs = list_all record_within rs
 
 rule_limits : (r : RuleRecord) → record_within r ≡ true → rule_within (rule_of r) ≡ true
-rule_limits r h =
-    let p = and_parts (nat_le r.length most_symbols) (nat_lt r.mark (2 ^ 16)) h in
-    let long : r.length ≤ most_symbols = leb-true r.length most_symbols p.0 in
-    let e : length (take r.length r.symbols) ≡ min r.length (length r.symbols) = length-take r.length r.symbols in
-    and_from (nat_le (length (take r.length r.symbols)) most_symbols) (nat_lt r.mark (2 ^ 16)) (le-leb (length (take r.length r.symbols)) most_symbols (omega arith)) p.1
+rule_limits r h = grind (arith, common_steps, length-take r.length r.symbols)
 
-pub records_limits : (rs : List RuleRecord) → length rs ≤ most_rules → records_within rs ≡ true → Limits (rules_of rs)
+pub records_limits : (rs : List RuleRecord) → length rs ≤ most_rules → records_within rs ≡ true →
+    Limits (rules_of rs)
 records_limits rs few within =
     record {
-      few = subst (λ (n : ℕ). n ≤ most_rules) (sym (length-map rs rule_of)) few;
+      few = simp length-map few;
       within = every_map rule_of record_within rule_within rule_limits rs within;
     }

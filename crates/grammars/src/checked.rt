@@ -31,10 +31,12 @@ impl Record for RuleRecord {
     }
 }
 
-// Rules that were checked.
+/// Rules that were checked: at most 96, each with at most four right symbols.
 pub type CheckedRules<'a> = Checked<'a, RuleRecord>;
 
-// No rules yet. It is no `Default` of all checked lists: its must-fail edit puts a rule in, which a body for all kinds cannot name.
+// It is no `Default` of all checked lists: its must-fail edit puts a rule in, which a body for all kinds
+// cannot name.
+/// No rules yet.
 pub fn no_rules<'a>() -> CheckedRules<'a>
     ensures { result.records.now ≡ [] }
 {

@@ -1,33 +1,41 @@
 // The grammar of spoken stock counts: parts such as "two box" and "open one", with a gap between them.
 ghost use Rattle.std.specs.Prelude.{◌≡◌};
 ghost use Rattle.grammars.specs.Count.{count_rules, count_limits};
-ghost use Rattle.grammars.specs.Records.{rules_of};
+ghost use Rattle.grammars.specs.Meaning.{listed_rules};
 
 use crate::list::RuleList;
 use crate::rule::RuleRecord;
 use grammar::Grammar;
 use records::checked::Checked;
 
-// A whole line, a part of it, a number, and what may stand between two parts.
+/// The symbol of a whole line.
 pub const LINE: u8 = 1;
 
+/// The symbol of a part of a line.
 pub const PART: u8 = 2;
 
+/// The symbol of a number.
 pub const NUM: u8 = 3;
 
+/// The symbol of what may stand between two parts.
 pub const GAP: u8 = 4;
 
-// The words that are spoken.
+/// The symbol of the word "one".
 pub const ONE: u8 = 16;
 
+/// The symbol of the word "two".
 pub const TWO: u8 = 17;
 
+/// The symbol of the word "three".
 pub const THREE: u8 = 18;
 
+/// The symbol of the word "box".
 pub const BOX: u8 = 19;
 
+/// The symbol of the word "open".
 pub const OPEN: u8 = 20;
 
+/// The symbol of the word "um".
 pub const UM: u8 = 21;
 
 const RULES: [RuleRecord; 11] = [
@@ -101,13 +109,12 @@ const RULES: [RuleRecord; 11] = [
 
 // The rules as a list.
 fn table() -> RuleList<'static>
-    ensures { rules_of result.checked.records.now ≡ count_rules }
+    ensures rules { listed_rules result ≡ count_rules }
 {
-    RuleList {
-        checked: Checked { records: &RULES },
-    }
+    RuleList::new(Checked { records: &RULES })
 }
 
+/// The eleven rules of spoken stock counts.
 #[derive(Clone, Copy, PartialEq, Eq, Debug, Default)]
 pub struct CountGrammar;
 

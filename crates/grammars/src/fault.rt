@@ -4,9 +4,10 @@ ghost use Rattle.grammars.specs.Faults.{rule_number, too_many_rules};
 use records::fault::{ListFault, RecordFault};
 use records::numbered::Numbered;
 
-// What is wrong with one rule.
+/// What is wrong with one rule.
 #[derive(Clone, Copy, PartialEq, Eq, Debug)]
 pub enum RuleFault {
+    /// 5: it has more than four right symbols.
     TooLong = 5,
 }
 
@@ -25,5 +26,5 @@ impl RecordFault for RuleFault {
     const TOO_MANY: u8 = 6;
 }
 
-// What is wrong with a list of rules: its length, or the first rule at fault.
+/// What is wrong with a list of rules: 6 for more than 96, or else the first rule at fault, from 0.
 pub type GrammarFault = ListFault<RuleFault>;

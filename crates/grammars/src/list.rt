@@ -3,29 +3,31 @@ ghost use Rattle.std.specs.Prelude.{◌≡◌, ◌≤◌, IfSome};
 ghost use Rattle.std.specs.List.{slice_get};
 ghost use Rattle.std.specs.Option.{option_map};
 ghost use Rattle.grammar.specs.Rules.{most_symbols};
-ghost use Rattle.grammars.specs.Records.{rule_of, rules_of, records_limits};
+ghost use Rattle.grammars.specs.Records.{rule_of, rules_of};
 
 use crate::checked::CheckedRules;
 use crate::rule::RuleRecord;
 use grammar::Grammar;
 
-// The checked rules as they stand; symbols past a rule's length are ignored.
+/// The checked rules as they stand in the caller's list; symbols past a rule's length are ignored.
 #[derive(Drop)]
 pub struct RuleList<'a> {
-    pub(crate) checked: CheckedRules<'a>,
+    checked: CheckedRules<'a>,
 }
 
 impl<'a> RuleList<'a> {
-    // The grammar of checked rules. Nothing is refused.
+    ghost use Rattle.grammars.specs.Meaning.{listed_rules};
+
+    /// The grammar of checked rules. Nothing is refused.
     pub fn new(checked: CheckedRules<'a>) -> Self
-        ensures { result.checked.records.now ≡ checked.entry.records.now }
+        ensures rules { listed_rules result ≡ rules_of checked.entry.records.now }
     {
         RuleList { checked }
     }
 
     // The record of a rule.
     fn record(&self, rule: usize) -> Option<RuleRecord>
-        ensures meaning { option_map rule_of result ≡ slice_get (rules_of self.now.checked.records.now) rule }
+        ensures meaning { option_map rule_of result ≡ slice_get (listed_rules self.now) rule }
         ensures within { IfSome result (λ x. x.length ≤ most_symbols) }
     {
         self.checked.records.get(rule).copied()
@@ -33,9 +35,11 @@ impl<'a> RuleList<'a> {
 }
 
 impl<'a> Grammar for RuleList<'a> {
-    ghost rules = { λ s. rules_of s.checked.records.now };
+    ghost use Rattle.grammars.specs.Meaning.{listed_rules, listed_keeps};
 
-    ghost limits = { λ s. records_limits s.checked.records.now s.checked.few s.checked.within };
+    ghost rules = { listed_rules };
+
+    ghost limits = { listed_keeps };
 
     fn len(&self) -> usize {
         self.checked.records.len()

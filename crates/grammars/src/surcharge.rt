@@ -1,23 +1,29 @@
 // A grammar over any other grammar, with more doubt on the rules of one left symbol.
-ghost use Rattle.std.specs.Prelude.{◌≡◌, ℕ, ◌+◌, min, ◌≢◌};
-ghost use Rattle.grammars.specs.Surcharges.{greatest_mark, surcharged, surcharged_limits};
+ghost use Rattle.std.specs.Prelude.{◌≡◌, ◌≤◌, length};
+ghost use Rattle.grammar.specs.Rules.{most_rules};
+ghost use Rattle.grammars.specs.Surcharges.{surcharged, AddsUp, Commutes};
 
 use grammar::Grammar;
 
-// The extra is added to the mark of each rule whose left is the symbol, up to the greatest mark.
+/// Rules of the symbol have the extra on their marks, up to 65,535; all others are as they were.
 #[derive(Drop)]
-pub struct Surcharge<G> {
+pub struct Surcharge<G: Grammar> {
     grammar: G,
     symbol: u8,
     extra: u16,
+    // It names the rules below, so that definitions over the type can name them too.
+    ghost few: { length (G.rules grammar) ≤ most_rules },
 }
 
 impl<G: Grammar> Surcharge<G> {
-    // A surcharge over a grammar. Another on the same symbol adds to it; one on another symbol could as well lie below it.
+    ghost use Rattle.grammars.specs.Meaning.{surcharged_rules};
+
+    /// A surcharge over a grammar. Nothing is refused.
+    #[tactic(auto, using(crate::proofs::Surcharging::surcharges_add, crate::proofs::Surcharging::surcharges_commute))]
     pub fn new(grammar: G, symbol: u8, extra: u16) -> Self
-        ensures rules { surcharged result.symbol result.extra (G.rules result.grammar) ≡ surcharged symbol extra (G.rules grammar) }
-        ensures adds { (more : ℕ) → surcharged symbol more (surcharged result.symbol result.extra (G.rules result.grammar)) ≡ surcharged symbol (min (extra + more) greatest_mark) (G.rules grammar) }
-        ensures commutes { (other more : ℕ) → (other ≢ symbol) → surcharged other more (surcharged result.symbol result.extra (G.rules result.grammar)) ≡ surcharged symbol extra (surcharged other more (G.rules grammar)) }
+        ensures rules { surcharged_rules result ≡ surcharged symbol extra (G.rules grammar) }
+        ensures adds { AddsUp symbol extra (surcharged_rules result) (G.rules grammar) }
+        ensures commutes { Commutes symbol extra (surcharged_rules result) (G.rules grammar) }
     {
         Surcharge {
             grammar,
@@ -28,9 +34,11 @@ impl<G: Grammar> Surcharge<G> {
 }
 
 impl<G: Grammar> Grammar for Surcharge<G> {
-    ghost rules = { λ s. surcharged s.symbol s.extra (G.Grammar.rules s.grammar) };
+    ghost use Rattle.grammars.specs.Meaning.{surcharged_rules, surcharged_keeps};
 
-    ghost limits = { λ s. surcharged_limits s.symbol s.extra (G.Grammar.rules s.grammar) (G.Grammar.limits s.grammar) };
+    ghost rules = { surcharged_rules };
+
+    ghost limits = { surcharged_keeps };
 
     fn len(&self) -> usize {
         self.grammar.len()

@@ -1,3 +1,4 @@
 pub mod Faults
 pub mod Heard
 pub mod Typed
+pub mod Meaning

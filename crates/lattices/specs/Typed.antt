@@ -1,9 +1,9 @@
 -- The words of a typed line, and that a short line keeps to the limits. Assumes nothing.
-use Rattle.std.specs.Prelude.{◌≡◌, ℕ, suc, ◌+◌, ◌≤◌, true, ◌&&◌, List, [], ◌∷◌, length, nat_le, refl}
-use Rattle.std.proofs.Common.{ap, sym, subst, arith}
-use Rattle.std.proofs.lemmas.Bool.{and_from, lt-ltb, le-leb}
+use Rattle.std.specs.Prelude.{◌≡◌, ℕ, suc, ◌+◌, ◌≤◌, true, List, [], ◌∷◌, length, refl}
+use Rattle.std.proofs.Common.{ap, arith}
+use Rattle.std.proofs.lemmas.Grind.{common_steps}
 use Rattle.lattice.specs.declared.word.Word.{Word}
-use Rattle.lattice.specs.Words.{greatest_node, most_words, forward, word_within, words_within, Limits}
+use Rattle.lattice.specs.Words.{greatest_node, words_within, Limits}
 
 -- a byte as a word without doubt, from node n to the next
 abbrev pub typed_word : ℕ → ℕ → Word
@@ -21,17 +21,16 @@ pub length_typed : (n : ℕ) (bs : List ℕ) → length (typed_from n bs) ≡ le
 length_typed n [] = refl
 length_typed n (b ∷ bs) = ap suc (length_typed (suc n) bs)
 
-typed_within : (last n : ℕ) (bs : List ℕ) → n + length bs ≤ last → words_within last (typed_from n bs) ≡ true
+typed_within : (last n : ℕ) (bs : List ℕ) → n + length bs ≤ last →
+    words_within last (typed_from n bs) ≡ true
 typed_within last n [] room = refl
-typed_within last n (b ∷ bs) room =
-    and_from (word_within last (typed_word n b)) (words_within last (typed_from (suc n) bs))
-    (and_from (forward n (suc n)) (nat_le (suc n) last && true) (lt-ltb n (suc n) (omega arith)) (and_from (nat_le (suc n) last) true (le-leb (suc n) last (omega arith)) refl))
-    (typed_within last (suc n) bs (omega arith))
+typed_within last n (b ∷ bs) room = grind (arith, common_steps, typed_within last (suc n) bs)
 
-pub typed_limits : (bytes : List ℕ) → length bytes ≤ greatest_node → Limits (length bytes) (typed_words bytes)
+pub typed_limits : (bytes : List ℕ) → length bytes ≤ greatest_node →
+    Limits (length bytes) (typed_words bytes)
 typed_limits bytes short =
     record {
       short = short;
-      few = subst (λ (n : ℕ). n ≤ most_words) (sym (length_typed 0 bytes)) (omega arith);
+      few = simp length_typed (omega arith);
       within = typed_within (length bytes) 0 bytes (omega arith);
     }

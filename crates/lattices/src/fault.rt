@@ -1,11 +1,12 @@
-// What is wrong with a typed line that makes no lattice.
+// What is wrong with a typed line that makes no lattice. The refusal has its number from one definition.
 ghost use Rattle.lattices.specs.Faults.{typed_number};
 
 use records::numbered::Numbered;
 
-// A line has at most as many bytes as a lattice has nodes after node 0.
+/// What is wrong with a typed line.
 #[derive(Clone, Copy, PartialEq, Eq, Debug)]
 pub enum TypedFault {
+    /// 4: it has more than 31 bytes, and so too many nodes.
     TooLong = 4,
 }
 

@@ -1,12 +1,12 @@
 // A lattice over a caller's list of words.
 ghost use Rattle.std.specs.Prelude.{◌≡◌};
-ghost use Rattle.lattices.specs.Heard.{largest_end, heard_limits};
+ghost use Rattle.lattices.specs.Heard.{largest_end};
 
 use lattice::Lattice;
 use lattice::checked::CheckedWords;
 use lattice::word::Word;
 
-// The checked words as they stand; the last node is the largest end, sought once.
+/// The checked words as they stand in the caller's list; the last node is their largest end, sought once.
 #[derive(Drop)]
 pub struct HeardLattice<'a> {
     checked: CheckedWords<'a>,
@@ -15,9 +15,11 @@ pub struct HeardLattice<'a> {
 }
 
 impl<'a> HeardLattice<'a> {
-    // The lattice of checked words. Nothing is refused.
+    ghost use Rattle.lattices.specs.Meaning.{heard_words};
+
+    /// The lattice of checked words. Nothing is refused.
     pub fn new(checked: CheckedWords<'a>) -> Self
-        ensures { result.checked.records.now ≡ checked.entry.records.now }
+        ensures words { heard_words result ≡ checked.entry.records.now }
     {
         let last = largest_end(checked.records);
         HeardLattice { checked, last }
@@ -32,11 +34,13 @@ fn largest_end(words: &[Word]) -> u8
 }
 
 impl<'a> Lattice for HeardLattice<'a> {
-    ghost last = { λ s. largest_end s.checked.records.now };
+    ghost use Rattle.lattices.specs.Meaning.{heard_words, heard_keeps};
 
-    ghost words = { λ s. s.checked.records.now };
+    ghost last = { λ lattice. largest_end (heard_words lattice) };
 
-    ghost limits = { λ s. heard_limits s.checked.records.now s.checked.few s.checked.within };
+    ghost words = { heard_words };
+
+    ghost limits = { heard_keeps };
 
     fn last_node(&self) -> u8 {
         self.last

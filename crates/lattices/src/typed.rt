@@ -1,18 +1,18 @@
 // A lattice over a caller's bytes, one word to a byte.
-ghost use Rattle.std.specs.Prelude.{◌≡◌, ◌≤◌, [], length, Ok, Err, IfOk};
+ghost use Rattle.std.specs.Prelude.{◌≡◌, ◌≤◌, [], length, IfOk, OnOk, OnErr};
 ghost use Rattle.std.specs.Option.{option_map};
 ghost use Rattle.std.specs.Result.{result_err};
 ghost use Rattle.lattice.specs.Words.{greatest_node};
 ghost use Rattle.lattices.specs.Faults.{typed_number, typed_refusal};
-ghost use Rattle.lattices.specs.Typed.{typed_words, typed_limits};
+ghost use Rattle.lattices.specs.Typed.{typed_words};
 
 use crate::fault::TypedFault;
 use lattice::Lattice;
 use lattice::checked::GREATEST_NODE;
 use lattice::word::Word;
 
-// No list of checked records: a byte alone is never refused, so `Checked` would want a fault without cases.
-// Byte n is a word from node n to the next, without doubt; the last node is the length.
+// It is no list of checked records: a byte alone is never refused, so `Checked` would want a fault without cases.
+/// At most 31 bytes. Byte n is a word from node n to the next, without doubt; the last node is the length.
 #[derive(Drop)]
 pub struct TypedLine<'a> {
     bytes: &'a [u8],
@@ -20,17 +20,19 @@ pub struct TypedLine<'a> {
 }
 
 impl<'a> TypedLine<'a> {
-    // A line without bytes.
+    ghost use Rattle.lattices.specs.Meaning.{typed_bytes};
+
+    /// A line without bytes.
     pub fn empty() -> Self
-        ensures { result.bytes.now ≡ [] }
+        ensures bytes { typed_bytes result ≡ [] }
     {
         TypedLine { bytes: &[] }
     }
 
-    // A line of bytes.
+    /// A line of bytes; more than 31 are refused with 4.
     pub fn new(bytes: &'a [u8]) -> Result<Self, TypedFault>
         ensures refused { option_map typed_number (result_err result) ≡ typed_refusal bytes.now }
-        ensures bytes { IfOk result (λ line. line.bytes.now ≡ bytes.now) }
+        ensures bytes { IfOk result (λ line. typed_bytes line ≡ bytes.now) }
     {
         if bytes.len() > usize::from(GREATEST_NODE) {
             return Err(TypedFault::TooLong);
@@ -38,10 +40,11 @@ impl<'a> TypedLine<'a> {
         Ok(TypedLine { bytes })
     }
 
-    // Takes a line, or refuses it and keeps the one that it has.
+    /// Takes a line of bytes; more than 31 are refused with 4, and the line stays as it is.
     pub fn set(&mut self, bytes: &'a [u8]) -> Result<(), TypedFault>
         ensures refused { option_map typed_number (result_err result) ≡ typed_refusal bytes.now }
-        ensures bytes { self.new.bytes.now ≡ elim result [ Ok _ ↦ bytes.now | Err _ ↦ self.old.bytes.now ] }
+        ensures bytes { OnOk result (typed_bytes self.new ≡ bytes.now) }
+        ensures kept { OnErr result (typed_bytes self.new ≡ typed_bytes self.old) }
     {
         *self = TypedLine::new(bytes)?;
         Ok(())
@@ -49,17 +52,20 @@ impl<'a> TypedLine<'a> {
 }
 
 impl<'a> Lattice for TypedLine<'a> {
-    ghost last = { λ s. length s.bytes.now };
+    ghost use Rattle.lattices.specs.Meaning.{typed_bytes, typed_keeps};
 
-    ghost words = { λ s. typed_words s.bytes.now };
+    ghost last = { λ line. length (typed_bytes line) };
 
-    ghost limits = { λ s. typed_limits s.bytes.now s.short };
+    ghost words = { λ line. typed_words (typed_bytes line) };
+
+    ghost limits = { typed_keeps };
 
     fn last_node(&self) -> u8 {
         // A line is short, so the cast is plainer than a test that cannot fail; the same below.
         self.bytes.len() as u8
     }
 
+    #[tactic(auto, using(crate::specs::Typed::length_typed))]
     fn len(&self) -> usize {
         self.bytes.len()
     }

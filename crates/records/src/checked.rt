@@ -10,8 +10,8 @@ use crate::{Record, check_records};
 #[derive(Drop)]
 pub struct Checked<'a, R: Record> {
     pub records: &'a [R],
-    ghost few: { length records.now ≤ R.MOST },
-    ghost within: { list_all R.within records.now ≡ true },
+    pub ghost few: { length records.now ≤ R.MOST },
+    pub ghost within: { list_all R.within records.now ≡ true },
 }
 
 impl<'a, R: Record> Checked<'a, R> {

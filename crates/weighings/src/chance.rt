@@ -8,7 +8,7 @@ use weighing::Weighing;
 // The code of certainty; others are parts of it.
 const CERTAIN: u64 = 2_147_483_648;
 
-// A chance in 2,147,483,648th parts of certainty.
+/// Chances multiply, and the larger one is lighter. A weight is a chance in 2,147,483,648th parts of certainty.
 #[derive(Clone, Copy, PartialEq, Eq, Debug, Default)]
 pub struct Chance;
 

@@ -5,6 +5,7 @@ ghost use Rattle.std.proofs.Common.{rules};
 
 use weighing::Weighing;
 
+/// Marks add up, to 2^64 - 1 at most, and the smaller weight is lighter.
 #[derive(Clone, Copy, PartialEq, Eq, Debug, Default)]
 pub struct Sum;
 

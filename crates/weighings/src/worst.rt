@@ -5,10 +5,12 @@ ghost use Rattle.std.proofs.Common.{rules};
 
 use weighing::Weighing;
 
+/// The larger mark counts alone, and the smaller weight is lighter.
 #[derive(Clone, Copy, PartialEq, Eq, Debug, Default)]
 pub struct Worst;
 
-// Its marks and its order are those of `Sum`. A provided method could not state these equations, since a trait's clause knows of `weights` only.
+// Its marks and its order are those of `Sum`. A provided method could not state these equations, since a clause of the
+// trait knows of `weights` only.
 impl Weighing for Worst {
     ghost weights = { λ _. worst_weights };
 

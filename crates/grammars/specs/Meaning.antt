@@ -1,0 +1,24 @@
+-- What the grammars of this crate mean. Assumes nothing.
+use Rattle.std.specs.Prelude.{List}
+use Rattle.grammar.specs.declared.Grammar.{Ghosts}
+use Rattle.grammar.specs.Rules.{Rule, Limits}
+use Rattle.grammars.specs.declared.list.RuleList.{RuleList}
+use Rattle.grammars.specs.declared.surcharge.Surcharge.{Surcharge}
+use Rattle.grammars.specs.Records.{rules_of, records_limits}
+use Rattle.grammars.specs.Surcharges.{surcharged, surcharged_limits}
+
+-- the rules of the records that a rule list was made of
+abbrev pub listed_rules : RuleList → List Rule
+listed_rules list = rules_of list.checked.records.now
+
+pub listed_keeps : (list : RuleList) → Limits (listed_rules list)
+listed_keeps list = records_limits list.checked.records.now list.checked.few list.checked.within
+
+-- over any grammar below
+module _ {G : Type 0} {g : Ghosts G} where
+  -- its rules, those of one symbol made dearer
+  abbrev pub surcharged_rules : Surcharge G g → List Rule
+  surcharged_rules it = surcharged it.symbol it.extra (g.rules it.grammar)
+
+  pub surcharged_keeps : (it : Surcharge G g) → Limits (surcharged_rules it)
+  surcharged_keeps it = surcharged_limits it.symbol it.extra (g.rules it.grammar) (g.limits it.grammar)
