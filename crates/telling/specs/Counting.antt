@@ -1,0 +1,21 @@
+-- How cases are counted. Assumes nothing.
+use Rattle.std.specs.Prelude.{ℕ, Bool, Result, ◌+◌, ◌-◌, ◌^◌, min, true, false}
+use Rattle.telling.specs.Answers.{same_answer}
+use Rattle.telling.specs.declared.case.Case.{Case}
+use Rattle.telling.specs.declared.tally.Tally.{Tally}
+
+-- one more, as far as a count goes
+abbrev pub one_more : ℕ → ℕ
+one_more count = min (count + 1) (2 ^ 32 - 1)
+
+-- how many are right after a case that is or is not
+abbrev pub right_after : Bool → ℕ → ℕ
+right_after is_right count = elim is_right [ true ↦ one_more count | false ↦ count ]
+
+-- a tally after what should come out and what does
+abbrev pub answered : Tally → Result ℕ ℕ → Result ℕ ℕ → Tally
+answered tally expected got = record { cases = one_more tally.cases; right = right_after (same_answer expected got) tally.right }
+
+-- a tally after a case
+abbrev pub counted : Tally → Case → Tally
+counted tally case = answered tally case.expected case.got

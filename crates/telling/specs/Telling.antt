@@ -1,0 +1,25 @@
+-- How a case and a tally are told, each in one line without its line feed. Assumes nothing.
+use Rattle.std.specs.Prelude.{ℕ, true, false, List, ◌++◌, Ok, Err, Result, codes, decimal}
+use Rattle.records.specs.Telling.{refused_text}
+use Rattle.telling.specs.Answers.{right}
+use Rattle.telling.specs.declared.case.Case.{Case}
+use Rattle.telling.specs.declared.tally.Tally.{Tally}
+
+abbrev pub answer_text : Result ℕ ℕ → List ℕ
+answer_text (Ok value) = decimal value
+answer_text (Err refusal) = refused_text refusal
+
+-- a case by its theme and its name
+abbrev pub title : Case → List ℕ
+title case = case.theme.now ++ (codes ": " ++ case.name.now)
+
+-- the two answers only where they differ
+abbrev pub case_text : Case → List ℕ
+case_text case =
+    elim (right case) [
+      | true ↦ codes "ok " ++ title case
+      | false ↦ codes "WRONG " ++ (title case ++ (codes ": expected " ++ (answer_text case.expected ++ (codes ", got " ++ answer_text case.got))))
+    ]
+
+abbrev pub tally_text : Tally → List ℕ
+tally_text tally = decimal tally.right ++ (codes " of " ++ (decimal tally.cases ++ codes " cases as they should be"))

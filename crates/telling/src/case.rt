@@ -1,0 +1,95 @@
+// One case, and the answers of calls by numbers.
+ghost use Rattle.std.specs.Prelude.{◌≡◌, ◌↔◌, IsTrue, Ok, Err, IsOkAnd, MatchOption, MatchResult};
+ghost use Rattle.telling.specs.Answers.{right};
+
+use records::numbered::Numbered;
+use std::fmt;
+
+/// What a call answers: a number, or that it is refused, by the number of the refusal.
+pub type Answer = Result<u64, u8>;
+
+/// A case: what it is about, its name there, what should come out, and what does.
+#[derive(Clone, Copy)]
+pub struct Case {
+    pub theme: &'static str,
+    pub name: &'static str,
+    pub expected: Answer,
+    pub got: Answer,
+}
+
+// An answer as a line of the table tells it.
+#[derive(Clone, Copy)]
+struct Shown(Answer);
+
+impl fmt::Display for Shown {
+    ghost use Rattle.std.specs.Prelude.{Some};
+    ghost use Rattle.telling.specs.Telling.{answer_text};
+
+    ghost output = { λ shown. Some (answer_text shown.0) };
+
+    fn fmt<W: fmt::Write>(&self, f: &mut fmt::Formatter<W>) -> fmt::Result {
+        match self.0 {
+            Ok(value) => write!(f, "{value}"),
+            Err(refusal) => write!(f, "refused {refusal}"),
+        }
+    }
+}
+
+/// An answer by numbers.
+pub fn told<T: Into<u64>, N: Numbered>(answer: Result<T, N>) -> Answer
+    ensures { MatchResult answer (λ value. IsOkAnd result (T.converts value))
+        (λ refusal. result ≡ Err (N.number refusal)) }
+{
+    match answer {
+        Ok(value) => Ok(value.into()),
+        Err(refusal) => Err(refusal.number()),
+    }
+}
+
+/// An answer that may be none, which is told as refusal 0: no refusal has that number.
+pub fn given<T: Into<u64>>(answer: Option<T>) -> Answer
+    ensures { MatchOption answer (result ≡ Err 0) (λ value. IsOkAnd result (T.converts value)) }
+{
+    match answer {
+        Some(value) => Ok(value.into()),
+        None => Err(0),
+    }
+}
+
+/// The answer of a call that gives nothing back: 0, if it is not refused.
+pub fn done<N: Numbered>(answer: Result<(), N>) -> Answer
+    ensures { result ≡ elim answer [ Ok _ ↦ Ok 0 | Err refusal ↦ Err (N.number refusal) ] }
+{
+    told(answer.map(|()| 0_u64))
+}
+
+impl Case {
+    /// Whether what comes out is what should.
+    pub fn is_right(&self) -> bool
+        ensures same { IsTrue result ↔ (self.now.expected ≡ self.now.got) }
+        ensures right { result ≡ right self.now }
+    {
+        self.expected == self.got
+    }
+}
+
+// One line without its line feed.
+impl fmt::Display for Case {
+    ghost use Rattle.std.specs.Prelude.{Some};
+    ghost use Rattle.telling.specs.Telling.{case_text};
+
+    ghost output = { λ case. Some (case_text case) };
+
+    fn fmt<W: fmt::Write>(&self, f: &mut fmt::Formatter<W>) -> fmt::Result {
+        if self.is_right() {
+            return write!(f, "ok {}: {}", self.theme, self.name);
+        }
+        let expected = Shown(self.expected);
+        let got = Shown(self.got);
+        write!(
+            f,
+            "WRONG {}: {}: expected {expected}, got {got}",
+            self.theme, self.name
+        )
+    }
+}

@@ -1,0 +1,42 @@
+// How many cases there were, and how many of them came out as they should.
+ghost use Rattle.std.specs.Prelude.{◌≡◌};
+
+use crate::case::Case;
+use std::fmt;
+
+/// A count of cases, and of those that are right, each as far as it goes.
+#[derive(Clone, Copy, Default)]
+pub struct Tally {
+    pub cases: u32,
+    pub right: u32,
+}
+
+impl Tally {
+    ghost use Rattle.telling.specs.Counting.{counted};
+
+    // Counts a case.
+    pub(crate) fn count(&mut self, case: &Case)
+        ensures { self.new ≡ counted self.old case.now }
+    {
+        self.cases = self.cases.saturating_add(1);
+        if case.is_right() {
+            self.right = self.right.saturating_add(1);
+        }
+    }
+}
+
+// The last line of a table, without its line feed.
+impl fmt::Display for Tally {
+    ghost use Rattle.std.specs.Prelude.{Some};
+    ghost use Rattle.telling.specs.Telling.{tally_text};
+
+    ghost output = { λ tally. Some (tally_text tally) };
+
+    fn fmt<W: fmt::Write>(&self, f: &mut fmt::Formatter<W>) -> fmt::Result {
+        write!(
+            f,
+            "{} of {} cases as they should be",
+            self.right, self.cases
+        )
+    }
+}
