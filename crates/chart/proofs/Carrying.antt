@@ -1,14 +1,15 @@
 -- The weight of a finished edge, by its place. Assumes nothing.
-use Rattle.std.proofs.Common.{◌≡◌, ℕ, suc, ◌+◌, true, false, List, [], ◌∷◌, Some, None, Option, sym, refl, ap, ◌∙◌, ⊎_elim, arith}
-use Rattle.std.specs.List.{slice_get}
+use Rattle.std.proofs.Common.{◌≡◌, ℕ, zero, suc, ◌+◌, ◌<◌, Bool, true, false, List, [], ◌∷◌, length, get_or, Some, None, Option, sym, refl, ◌∙◌, ⊎_elim, arith}
+use Rattle.std.specs.List.{slice_get, position_from}
 use Rattle.std.specs.Option.{option_map}
 use Rattle.std.proofs.lemmas.Bool.{cases_Bool}
-use Rattle.chart_model.specs.Plain.{same_edge, is_open, standing, carried}
-use Rattle.chart_model.specs.Standings.{seen, place_from, place_of}
+use Rattle.std.proofs.lemmas.Iterator.Adapters.{position_from-zero}
+use Rattle.std.proofs.lemmas.List.Quantifiers.{position-Some}
+use Rattle.chart_model.specs.Plain.{same_edge, is_open, unused, seen, standing, place_of, carried}
 use Rattle.chart_model.specs.declared.edge.Edge.{Edge}
 use Rattle.chart_model.specs.declared.place.Place.{Place}
 use Rattle.chart_model.specs.declared.place.Standing.{Standing}
-use Rattle.chart_model.proofs.Members.{none_some, some_same}
+use Rattle.chart_model.proofs.Members.{none_some}
 use Rattle.chart.specs.View.{standing_at, standing_of}
 
 -- the weight at a place, if the edge there is finished
@@ -16,49 +17,41 @@ abbrev weight_of : Option Place → Option ℕ
 weight_of None = None
 weight_of (Some p) = elim (is_open p.finished) [ true ↦ None | false ↦ Some p.weight ]
 
-standing_weight : (n : ℕ) (o : Option Place) → weight_of o ≡ option_map (λ (s : Standing). s.weight) (elim o [ None ↦ None | Some p ↦ standing n p ])
+standing_weight : (n : ℕ) (o : Option Place) → option_map (λ (s : Standing). s.weight) (elim o [ None ↦ None | Some p ↦ standing n p ]) ≡ weight_of o
 standing_weight n None = refl
 standing_weight n (Some p) = go p.finished
   where
-    go : (m : Option ℕ) → elim (is_open m) as (λ _. Option ℕ) [ true ↦ None | false ↦ Some p.weight ]
-        ≡ option_map (λ (s : Standing). s.weight) (elim m as (λ _. Option Standing) [ None ↦ None | Some k ↦ Some (seen n p) ])
+    go : (m : Option ℕ) → option_map (λ (s : Standing). s.weight) (elim m as (λ _. Option Standing) [ None ↦ None | Some k ↦ Some (seen n p) ])
+        ≡ elim (is_open m) as (λ _. Option ℕ) [ true ↦ None | false ↦ Some p.weight ]
     go None = refl
     go (Some k) = refl
 
-carried_from : (m k : ℕ) (e : Edge) (ps : List Place) → place_from m e ps ≡ Some k → (n : ℕ) × (m + n ≡ k) × (carried e ps ≡ weight_of (slice_get ps n))
-carried_from m k e [] h = absurd (none_some h)
-carried_from m k e (p ∷ ps) h =
-    ⊎_elim
-    (λ (same : same_edge p.edge e ≡ true).
-    let found : m ≡ k = some_same (rw (same, place_from) at h) in
-    (0, omega arith, rw (same, carried)))
-    (λ (other : same_edge p.edge e ≡ false).
-    let (n, sum, is) = carried_from (suc m) k e ps (rw (other, place_from) at h) in
-    (suc n, omega arith, rw (other, carried) is))
-    (cases_Bool (same_edge p.edge e))
+module _ (e : Edge) where
+  abbrev has : Place → Bool
+  has p = same_edge p.edge e
 
-uncarried_from : (m : ℕ) (e : Edge) (ps : List Place) → place_from m e ps ≡ None → carried e ps ≡ None
-uncarried_from m e [] h = refl
-uncarried_from m e (p ∷ ps) h =
-    ⊎_elim
-    (λ (same : same_edge p.edge e ≡ true). let some = rw (same, place_from) at h in absurd (none_some (sym some)))
-    (λ (other : same_edge p.edge e ≡ false). rw (other, carried) (uncarried_from (suc m) e ps (rw (other, place_from) at h)))
-    (cases_Bool (same_edge p.edge e))
+  -- an edge with a place carries the weight of what stands finished there
+  carried_at : (k : ℕ) (ps : List Place) (d : Place) → k < length ps → has (get_or ps k d) ≡ true → ((j : ℕ) → j < k → has (get_or ps j d) ≡ false) → weight_of (slice_get ps k) ≡ carried e ps
+  carried_at k [] d within here before = absurd (omega arith)
+  carried_at zero (p ∷ ps) d within here before = rw (here, carried)
+  carried_at (suc k) (p ∷ ps) d within here before =
+      let other : has p ≡ false = before 0 (omega arith) in
+      rw (other, carried) (carried_at k ps d (omega arith) here (λ j below. before (suc j) (omega arith)))
 
--- an edge without a place is not finished
-uncarried : (e : Edge) (ps : List Place) → place_of e ps ≡ None → None ≡ carried e ps
-uncarried e ps h = sym (uncarried_from 0 e ps h)
+  -- an edge without a place is not finished
+  uncarried : (m : ℕ) (ps : List Place) → position_from has m ps ≡ None → None ≡ carried e ps
+  uncarried m [] h = refl
+  uncarried m (p ∷ ps) h =
+      ⊎_elim
+      (λ (here : has p ≡ true). let found = rw here at h in absurd (none_some (sym found)))
+      (λ (other : has p ≡ false). rw (other, carried) (uncarried (m + 1) ps (rw other at h)))
+      (cases_Bool (has p))
 
--- an edge with a place carries the weight of what stands finished there
-carried_at : (e : Edge) (ps : List Place) (k : ℕ) → place_of e ps ≡ Some k → option_map (λ (s : Standing). s.weight) (standing_at ps k) ≡ carried e ps
-carried_at e ps k h =
-    let (n, sum, is) = carried_from 0 k e ps h in
-    let same : n ≡ k = omega arith in
-    sym (is ∙ ap (λ i. weight_of (slice_get ps i)) same ∙ standing_weight k (slice_get ps k))
-
-pub carried_standing : (e : Edge) (ps : List Place) → option_map (λ (s : Standing). s.weight) (standing_of e ps) ≡ carried e ps
-carried_standing e ps = go (place_of e ps) refl
-  where
-    go : (o : Option ℕ) → place_of e ps ≡ o → option_map (λ (s : Standing). s.weight) (elim o as (λ _. Option Standing) [ None ↦ None | Some n ↦ standing_at ps n ]) ≡ carried e ps
-    go None h = uncarried e ps h
-    go (Some k) h = carried_at e ps k h
+  pub carried_standing : (ps : List Place) → option_map (λ (s : Standing). s.weight) (standing_of e ps) ≡ carried e ps
+  carried_standing ps = go (place_of e ps) refl
+    where
+      go : (o : Option ℕ) → place_of e ps ≡ o → option_map (λ (s : Standing). s.weight) (elim o as (λ _. Option Standing) [ None ↦ None | Some n ↦ standing_at ps n ]) ≡ carried e ps
+      go None h = uncarried 0 ps (sym (position_from-zero has ps) ∙ h)
+      go (Some k) h =
+          let (within, here, before) = position-Some has ps k unused h in
+          standing_weight k (slice_get ps k) ∙ carried_at k ps unused within here before

@@ -1,37 +1,56 @@
--- What a table keeps: its count, and the order of its origins. Assumes nothing.
-use Rattle.std.proofs.Common.{◌≡◌, ℕ, suc, ◌<◌, ◌≤◌, Bool, true, [], ◌∷◌, length, Some, sym, ap, ◌∙◌, arith}
-use Rattle.std.specs.List.{slice_get}
-use Rattle.chart_model.specs.Plain.{Chart, done, finish, arrive, finishing}
-use Rattle.chart_model.specs.Standings.{lightest_standing}
-use Rattle.chart_model.specs.Origins.{orderly, names_earlier}
+-- What a table keeps: its room, its count, and the order of its origins. Assumes nothing.
+use Rattle.std.proofs.Common.{◌≡◌, ℕ, suc, ◌<◌, ◌≤◌, min, Bool, true, [], ◌∷◌, length, take, Some, sym, ap, ◌∙◌, arith}
+use Rattle.std.proofs.lemmas.List.{length-take}
+use Rattle.chart_model.specs.Plain.{Chart, done, finish, arrive, finishing, lightest_open}
+use Rattle.chart_model.specs.Stands.{Fits}
+use Rattle.chart_model.specs.Origins.{orderly}
 use Rattle.chart_model.specs.declared.place.Arrival.{Arrival}
 use Rattle.chart_model.specs.declared.place.Standing.{Standing}
-use Rattle.chart_model.proofs.Members.{nth_below, at_nth}
-use Rattle.chart_model.proofs.Arriving.{arrive_all_done, arrive_within}
+use Rattle.chart_model.proofs.Members.{nth_below}
+use Rattle.chart_model.proofs.Arriving.{arrive_all_done, arrive_all_fits}
+use Rattle.chart_model.proofs.Done.{done_within}
 use Rattle.chart_model.proofs.Finishing.{finish_done, finish_length}
-use Rattle.chart_model.proofs.Lightest.{done_within}
-use Rattle.chart_model.proofs.Standings.{lightest_stands}
+use Rattle.chart_model.proofs.Lightest.{lightest_stands}
 use Rattle.chart_model.proofs.Numbering.{number_within, earlier_parts, count_arrive, orderly_arrive, earlier_now, orderly_finish}
+use Rattle.chart.specs.declared.places.Places.{Places}
 use Rattle.chart.specs.declared.table.Table.{Table}
 use Rattle.chart.specs.Charts.{held}
-use Rattle.chart.specs.View.{room, Named}
+use Rattle.chart.specs.View.{room, view, Named, NamesEarlier}
 
 -- what holds of the plain chart of a table
 pub record Kept (c : Chart) : Type 0 where
-  pub fits : length c.places ≤ room
+  pub fits : Fits room c
   pub counted : done c.places ≡ c.finished
   pub orderly : orderly c ≡ true
 
-pub kept_arrive : (lighter : ℕ → ℕ → Bool) (c : Chart) (a : Arrival) → Kept c → names_earlier c.places (suc c.finished) a.origin ≡ true → Kept (arrive room lighter c a)
+-- there are no more places than are taken
+pub view_within : (p : Places) → length (view p).places ≤ p.taken
+view_within p = let long : length (take p.taken p.slots) ≡ min p.taken (length p.slots) = length-take p.taken p.slots in omega arith
+
+pub fits : (t : Table) → Fits room (held t)
+fits t =
+    let long = view_within t.places in
+    let most = t.room in
+    record { within = omega arith; taken = t.taken }
+
+pub kept : (t : Table) → Kept (held t)
+kept t = record { fits = fits t; counted = t.counted; orderly = t.orderly }
+
+-- no more edges are finished than there is room for
+pub finished_within : (t : Table) → (held t).finished ≤ room
+finished_within t =
+    let most = done_within (held t).places in
+    let within = (fits t).within in
+    let counted = t.counted in
+    omega arith
+
+pub kept_arrive : (lighter : ℕ → ℕ → Bool) (c : Chart) (a : Arrival) → Kept c → NamesEarlier c a → Kept (arrive room lighter c a)
 kept_arrive lighter c a kept named =
     record {
-      fits = arrive_within room lighter c a kept.fits;
+      fits = arrive_all_fits room lighter (a ∷ []) c kept.fits;
       counted = arrive_all_done room lighter (a ∷ []) c ∙ kept.counted ∙ sym (count_arrive lighter a room c);
       orderly = orderly_arrive lighter a room c kept.orderly named;
     }
-
-pub kept : (t : Table) → Kept (held t)
-kept t = record { fits = t.room; counted = t.counted; orderly = t.orderly }
 
 -- what holds of an edge that a search has found
 pub record Found (c : Chart) (s : Standing) : Type 0 where
@@ -42,21 +61,25 @@ pub record Found (c : Chart) (s : Standing) : Type 0 where
   pub kept : Kept (finishing c s.at)
   pub named : Named (finishing c s.at) s.at
 
-pub found : (lighter : ℕ → ℕ → Bool) (c : Chart) → Kept c → (s : Standing) → lightest_standing lighter c.places ≡ Some s → Found c s
+pub found : (lighter : ℕ → ℕ → Bool) (c : Chart) → Kept c → (s : Standing) → lightest_open lighter c.places ≡ Some s → Found c s
 found lighter c was s h =
-    let (p, at, opened, same) = lightest_stands lighter 0 c.places s h in
+    let it = lightest_stands lighter c.places s h in
     let number = suc c.finished in
-    let there : slice_get c.places s.at ≡ Some p = at_nth c.places s.at p at in
-    let more : done (finish (suc c.finished) s.at c.places) ≡ suc (done c.places) = finish_done number s.at c.places p there opened in
+    let more : done (finish (suc c.finished) s.at c.places) ≡ suc (done c.places) = finish_done number s.at c.places it.place it.there it.still_open in
     let most = done_within (finish number s.at c.places) in
     let long = finish_length number s.at c.places in
     let fits = was.fits in
     let counted = was.counted in
     record {
-      within = nth_below c.places s.at p there;
+      within = nth_below c.places s.at it.place it.there;
       left = omega arith;
-      kept = record { fits = omega arith; counted = more ∙ ap suc counted; orderly = orderly_finish c s.at p there opened was.orderly };
-      named = earlier_now c s.at p there opened;
+      kept =
+          record {
+            fits = record { within = omega arith; taken = λ full. let all = fits.taken full in omega arith };
+            counted = more ∙ ap suc counted;
+            orderly = orderly_finish c s.at it.place it.there it.still_open was.orderly;
+          };
+      named = earlier_now c s.at it.place it.there it.still_open;
     }
 
 -- a named place is there

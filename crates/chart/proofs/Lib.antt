@@ -1,5 +1,3 @@
-pub mod Finding
-pub mod Choosing
 pub mod Writing
 pub mod Landing
 pub mod Keeping
@@ -12,7 +10,6 @@ pub mod Staying
 pub mod Settling
 pub mod Advancing
 pub mod Reaching
-pub mod Saying
 pub mod Turns
 pub mod Runs
 pub mod Overlay

@@ -42,18 +42,6 @@ over_one zero x (b ∷ before) = refl
 over_one (suc n) x [] = refl
 over_one (suc n) x (b ∷ before) = ap (λ bs. b ∷ bs) (over_one n x before)
 
--- with room for all, and without
-pub over_fits : (ns before : List Node) → length ns ≤ length before → over ns before ≡ ns ++ drop (length ns) before
-over_fits [] before fits = refl
-over_fits (x ∷ ns) [] fits = absurd (omega arith)
-over_fits (x ∷ ns) (b ∷ before) fits = ap (λ bs. x ∷ bs) (over_fits ns before (omega arith))
-
-pub over_short : (ns before : List Node) → length before ≤ length ns → over ns before ≡ take (length before) ns
-over_short [] [] short = refl
-over_short [] (b ∷ before) short = absurd (omega arith)
-over_short (x ∷ ns) [] short = refl
-over_short (x ∷ ns) (b ∷ before) short = ap (λ bs. x ∷ bs) (over_short ns before (omega arith))
-
 -- AN EDGE'S OWN NODE
 
 module _ (before : List Node) (filled : ℕ) where

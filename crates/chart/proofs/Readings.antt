@@ -1,71 +1,53 @@
--- What a settled chart's reading answers and leaves, and what it says of derivations. Assumes nothing.
-use Rattle.std.proofs.Common.{◌≡◌, ℕ, ◌<◌, ◌≤◌, Bool, true, false, leb, List, [], ◌++◌, length, take, drop, Some, None, Ok, Err, Option, Result, sym, refl, ap, ◌∙◌, subst, subst₂, arith}
+-- What a settled chart answers, by the place that was found for a phrase. Assumes nothing.
+use Rattle.std.proofs.Common.{◌≡◌, ℕ, ◌<◌, ◌≤◌, Bool, true, false, List, [], length, Some, None, Ok, Err, Option, Result, sym, refl, ap, ◌∙◌, arith}
 use Rattle.std.specs.List.{slice_get}
 use Rattle.std.specs.Option.{option_map, ok_or}
 use Rattle.std.specs.Result.{result_map_both}
 use Rattle.std.proofs.lemmas.Bool.{le-leb, lt-leb}
-use Rattle.chart_model.specs.Task.{Task, Sound}
-use Rattle.chart_model.specs.Derivation.{Tree, tree_weight}
-use Rattle.chart_model.specs.Listing.{tree_nodes}
-use Rattle.chart_model.specs.Plain.{Chart, is_stretch, carried, settled_answer}
-use Rattle.chart_model.specs.Reading.{reading, reading_at, over, reading_answer, reading_list}
-use Rattle.chart_model.specs.Standings.{place_of, seen}
+use Rattle.chart_model.specs.Task.{Task}
+use Rattle.chart_model.specs.Plain.{Chart, edge_of, is_within, carried, missing_number, settled_answer, place_of, seen}
+use Rattle.chart_model.specs.Reading.{reading, reading_at, over, fitting, reading_answer, reading_list}
+use Rattle.chart_model.specs.Saying.{SettledSays, ReadingSays}
 use Rattle.chart_model.specs.declared.edge.Edge.{Edge}
-use Rattle.chart_model.specs.declared.edge.Edge.TheVariants.{Passive}
 use Rattle.chart_model.specs.declared.node.Node.{Node}
+use Rattle.chart_model.specs.declared.phrase.Phrase.{Phrase}
 use Rattle.chart_model.specs.declared.place.Place.{Place}
 use Rattle.chart_model.specs.declared.place.Standing.{Standing}
 use Rattle.chart_model.proofs.Members.{none_some, some_same}
-use Rattle.chart_model.proofs.Readings.{law_of_readings}
+use Rattle.chart.specs.Finding.{found_answer}
 use Rattle.chart.specs.Reading.{Wrote}
-use Rattle.chart.specs.Refusals.{settled_number, reading_number, told}
-use Rattle.chart.specs.Saying.{FromSettling, asked, missing_from, found_in, SettledSays, ReadingSays, ListedSays}
-use Rattle.chart.specs.View.{standing_at, standing_of}
-use Rattle.chart.specs.declared.refusal.SettledRefusal.{SettledRefusal}
-use Rattle.chart.specs.declared.refusal.SettledRefusal.TheVariants as Final
-use Rattle.chart.specs.declared.refusal.ReadingRefusal.{ReadingRefusal}
-use Rattle.chart.specs.declared.refusal.ReadingRefusal.TheVariants.{Unanswered, TooShort}
+use Rattle.chart.specs.Saying.{ListedSays}
+use Rattle.chart.specs.View.{room, standing_at, standing_of}
 use Rattle.chart.proofs.Carrying.{carried_standing}
-use Rattle.chart.proofs.Overlay.{over_fits, over_short}
-use Rattle.chart.proofs.Reaching.{settling_reached}
-use Rattle.chart.proofs.Saying.{settling_says}
 
--- A SYMBOL WITH ITS PLACE
+module _ (t : Task) (c : Chart) (p : Phrase) where
+  -- the weight alone
+  abbrev weighed : Result Standing ℕ → Result ℕ ℕ
+  weighed r = result_map_both (λ (s : Standing). s.weight) (λ e. e) r
 
--- the weight alone
-abbrev pub weighed : Result Standing SettledRefusal → Result ℕ SettledRefusal
-weighed r = result_map_both (λ (s : Standing). s.weight) (λ e. e) r
+  found_weighs : weighed (found_answer t c p) ≡ settled_answer t c p
+  found_weighs = go (is_within t.last p) (standing_of (edge_of p) c.places) (carried_standing (edge_of p) c.places)
+    where
+      go : (b : Bool) (o : Option Standing) → option_map (λ (s : Standing). s.weight) o ≡ carried (edge_of p) c.places →
+          weighed (elim b as (λ _. Result Standing ℕ) [ true ↦ ok_or o (missing_number c) | false ↦ Err 7 ])
+          ≡ elim b as (λ _. Result ℕ ℕ) [ true ↦ ok_or (carried (edge_of p) c.places) (missing_number c) | false ↦ Err 7 ]
+      go false o h = refl
+      go true None h = ap (λ v. ok_or v (missing_number c)) h
+      go true (Some s) h = ap (λ v. ok_or v (missing_number c)) h
 
--- a question tells its weight
-pub asked_found : (last : ℕ) (c : Chart) (x i j : ℕ) → weighed (found_in last c x i j) ≡ asked Final.NoStretch (missing_from c.full) last c x i j
-asked_found last c x i j = go (is_stretch last i j) (standing_of (Passive x i j) c.places) (carried_standing (Passive x i j) c.places)
-  where
-    go : (b : Bool) (o : Option Standing) → option_map (λ (s : Standing). s.weight) o ≡ carried (Passive x i j) c.places →
-        weighed (elim b as (λ _. Result Standing SettledRefusal) [ true ↦ ok_or o (missing_from c.full) | false ↦ Err Final.NoStretch ])
-        ≡ elim b as (λ _. Result ℕ SettledRefusal) [ true ↦ ok_or (carried (Passive x i j) c.places) (missing_from c.full) | false ↦ Err Final.NoStretch ]
-    go false o h = refl
-    go true None h = ap (λ v. ok_or v (missing_from c.full)) h
-    go true (Some s) h = ap (λ v. ok_or v (missing_from c.full)) h
+  pub found_ok : (s : Standing) → Ok s ≡ found_answer t c p → Ok s.weight ≡ settled_answer t c p
+  found_ok s found = ap weighed found ∙ found_weighs
 
--- and by number what the plain chart answers
-asked_answer : (t : Task) (c : Chart) (x i j : ℕ) → told settled_number (asked Final.NoStretch (missing_from c.full) t.last c x i j) ≡ settled_answer t c x i j
-asked_answer t c x i j = go (is_stretch t.last i j) (carried (Passive x i j) c.places) c.full
-  where
-    go : (b : Bool) (o : Option ℕ) (full : Bool) →
-        told settled_number (elim b as (λ _. Result ℕ SettledRefusal) [ true ↦ ok_or o (missing_from full) | false ↦ Err Final.NoStretch ])
-        ≡ elim b as (λ _. Result ℕ ℕ) [ true ↦ ok_or o (elim full as (λ _. ℕ) [ true ↦ 10 | false ↦ 9 ]) | false ↦ Err 7 ]
-    go false o full = refl
-    go true None true = refl
-    go true None false = refl
-    go true (Some w) full = refl
+  pub found_err : (number : ℕ) → Err number ≡ found_answer t c p → Err number ≡ settled_answer t c p
+  found_err number found = ap weighed found ∙ found_weighs
 
-standing_found : (last : ℕ) (c : Chart) (x i j : ℕ) (s : Standing) → found_in last c x i j ≡ Ok s → standing_of (Passive x i j) c.places ≡ Some s
-standing_found last c x i j s = go (is_stretch last i j) (standing_of (Passive x i j) c.places)
-  where
-    go : (b : Bool) (o : Option Standing) → elim b as (λ _. Result Standing SettledRefusal) [ true ↦ ok_or o (missing_from c.full) | false ↦ Err Final.NoStretch ] ≡ Ok s → o ≡ Some s
-    go false o h = absurd cc
-    go true None h = absurd cc
-    go true (Some r) h = cc
+  standing_found : (s : Standing) → Ok s ≡ found_answer t c p → standing_of (edge_of p) c.places ≡ Some s
+  standing_found s = go (is_within t.last p) (standing_of (edge_of p) c.places)
+    where
+      go : (b : Bool) (o : Option Standing) → Ok s ≡ elim b as (λ _. Result Standing ℕ) [ true ↦ ok_or o (missing_number c) | false ↦ Err 7 ] → o ≡ Some s
+      go false o h = absurd cc
+      go true None h = absurd cc
+      go true (Some r) h = cc
 
 -- it stands where its reading begins
 standing_reading : (e : Edge) (ps : List Place) (s : Standing) → standing_of e ps ≡ Some s → reading ps e ≡ reading_at ps s.at
@@ -84,125 +66,64 @@ standing_reading e ps s h = go (place_of e ps) h
     go None h = absurd (none_some h)
     go (Some n) h = ap (reading_at ps) (sym (at_place n (slice_get ps n) h))
 
--- WHAT IS ANSWERED, BY THE PLACE THAT WAS FOUND
+-- WHAT A READING ANSWERS AND LEAVES
 
-module _ {t : Task} (sound : Sound t) (c : Chart) (from : ∥ FromSettling t c ∥₁) (x i j : ℕ) where
-  abbrev edge : Edge
-  edge = Passive x i j
+module _ (t : Task) (c : Chart) (p : Phrase) (before : List Node) where
+  pub record Reads (after : List Node) (r : Result ℕ ℕ) : Type 0 where
+    pub answer : r ≡ reading_answer t c p (length before)
+    pub list : after ≡ reading_list t c p before
 
-  abbrev found : Result Standing SettledRefusal
-  found = found_in t.last c x i j
+  abbrev answered : Result ℕ ℕ → List Node → Result ℕ ℕ
+  answered o ns = elim o as (λ _. Result ℕ ℕ) [ Ok w ↦ fitting (length before) ns | Err n ↦ Err n ]
 
-  -- the answer to a question
-  pub record Answer (r : Result ℕ SettledRefusal) : Type 0 where
-    pub answer : told settled_number r ≡ settled_answer t c x i j
-    pub says : SettledSays t c x i j r
+  abbrev listed : Result ℕ ℕ → List Node → List Node
+  listed o ns = elim o as (λ _. List Node) [ Ok w ↦ over ns before | Err n ↦ before ]
 
-  pub answered : (r : Result Standing SettledRefusal) → r ≡ found → Answer (weighed r)
-  answered r h =
-      let is = ap weighed h ∙ asked_found t.last c x i j in
-      record { answer = ap (told settled_number) is ∙ asked_answer t c x i j; says = settling_says sound c from x i j (weighed r) is }
+  pub refused : (number : ℕ) → Err number ≡ found_answer t c p → Reads before (Err number)
+  refused number found =
+      let is = found_err t c p number found in
+      record {
+        answer = ap (λ o. answered o (reading c.places (edge_of p))) is;
+        list = ap (λ o. listed o (reading c.places (edge_of p))) is;
+      }
 
-  -- the answer of a reading, and what it leaves
-  module _ (before : List Node) where
-    pub record Read (after : List Node) (r : Result ℕ ReadingRefusal) : Type 0 where
-      pub answer : told reading_number r ≡ reading_answer t c x i j (length before)
-      pub list : after ≡ reading_list t c x i j before
-      pub says : ReadingSays t c x i j before after r
+  module _ (s : Standing) (found : Ok s ≡ found_answer t c p) where
+    abbrev ns : List Node
+    ns = reading_at c.places s.at
 
-    abbrev counted : List Node → Result ℕ ℕ
-    counted ns = elim (leb (length ns) (length before)) as (λ _. Result ℕ ℕ) [ true ↦ Ok (length ns) | false ↦ Err 12 ]
+    nodes_are : ns ≡ reading c.places (edge_of p)
+    nodes_are = sym (standing_reading (edge_of p) c.places s (standing_found t c p s found))
 
-    answer_by : (o : Result ℕ ℕ) → o ≡ settled_answer t c x i j → elim o as (λ _. Result ℕ ℕ) [ Ok w ↦ counted (reading c.places edge) | Err n ↦ Err n ] ≡ reading_answer t c x i j (length before)
-    answer_by o h = ap (λ (p : Result ℕ ℕ). elim p as (λ _. Result ℕ ℕ) [ Ok w ↦ counted (reading c.places edge) | Err n ↦ Err n ]) h
+    answer_is : fitting (length before) ns ≡ reading_answer t c p (length before)
+    answer_is = ap (fitting (length before)) nodes_are ∙ ap (λ o. answered o (reading c.places (edge_of p))) (found_ok t c p s found)
 
-    list_by : (o : Result ℕ ℕ) → o ≡ settled_answer t c x i j → elim o as (λ _. List Node) [ Ok w ↦ over (reading c.places edge) before | Err n ↦ before ] ≡ reading_list t c x i j before
-    list_by o h = ap (λ (p : Result ℕ ℕ). elim p as (λ _. List Node) [ Ok w ↦ over (reading c.places edge) before | Err n ↦ before ]) h
+    list_is : over ns before ≡ reading_list t c p before
+    list_is = ap (λ ms. over ms before) nodes_are ∙ ap (λ o. listed o (reading c.places (edge_of p))) (found_ok t c p s found)
 
-    pub refused : (refusal : SettledRefusal) → Err refusal ≡ found → (r : Result ℕ ReadingRefusal) → r ≡ Err (Unanswered refusal) → Read before r
-    refused refusal h r is =
-        let asks = answered (Err refusal) h in
-        subst (Read before) (sym is) (record { answer = answer_by (Err (settled_number refusal)) asks.answer; list = list_by (Err (settled_number refusal)) asks.answer; says = (Err refusal, asks.says, (refl, refl)) })
+    -- there was room for all, and so many were written
+    pub all_read : (after : List Node) (n : ℕ) → Wrote ns before after 0 (Some n) → Reads after (Ok n)
+    all_read after n (written, (count, within)) =
+        let same : n ≡ length ns = omega arith in
+        let fits : length ns ≤ length before = omega arith in
+        record {
+          answer = ap Ok same ∙ ap (λ b. elim b as (λ _. Result ℕ ℕ) [ true ↦ Ok (length ns) | false ↦ Err 12 ]) (sym (le-leb (length ns) (length before) fits)) ∙ answer_is;
+          list = written ∙ list_is;
+        }
 
-    module _ (s : Standing) (h : Ok s ≡ found) where
-      abbrev ns : List Node
-      ns = reading_at c.places s.at
-
-      asks : Answer (Ok s.weight)
-      asks = answered (Ok s) h
-
-      nodes_are : reading c.places edge ≡ ns
-      nodes_are = standing_reading edge c.places s (standing_found t.last c x i j s (sym h))
-
-      answer_is : counted ns ≡ reading_answer t c x i j (length before)
-      answer_is = ap counted (sym nodes_are) ∙ answer_by (Ok s.weight) asks.answer
-
-      list_is : over ns before ≡ reading_list t c x i j before
-      list_is = ap (λ ms. over ms before) (sym nodes_are) ∙ list_by (Ok s.weight) asks.answer
-
-      -- a derivation with just these nodes, of the weight that is carried
-      derivation : (d : Tree t x i j) × (tree_weight d ≡ s.weight) × (tree_nodes d ≡ ns)
-      derivation =
-          let (d, weight, nodes) = law_of_readings t sound c (settling_reached sound c from) x i j s.weight ((asks.says.tells.finished s.weight).0 refl) in
-          (d, weight, nodes ∙ nodes_are)
-
-      all_read : (after : List Node) (n : ℕ) → Wrote ns before after 0 (Some n) → Read after (Ok n)
-      all_read after n (written, (count, within)) =
-          let (d, weight, nodes) = derivation in
-          let same : n ≡ length ns = omega arith in
-          let fits : length ns ≤ length before = omega arith in
-          record {
-            answer = ap Ok same ∙ ap (λ b. elim b as (λ _. Result ℕ ℕ) [ true ↦ Ok (length ns) | false ↦ Err 12 ]) (sym (le-leb (length ns) (length before) fits)) ∙ answer_is;
-            list = written ∙ list_is;
-            says = (
-              Ok s.weight,
-              asks.says,
-              (
-                d,
-                weight,
-                (
-                  same ∙ ap length (sym nodes),
-                  within,
-                  written ∙ over_fits ns before fits ∙ ap (λ m. ns ++ drop m before) (sym same) ∙ ap (λ ms. ms ++ drop n before) (sym nodes),
-                ),
-              ),
-            );
-          }
-
-      first_read : (after : List Node) → Wrote ns before after 0 None → Read after (Err TooShort)
-      first_read after (written, short) =
-          let (d, weight, nodes) = derivation in
-          let past : length before < length ns = omega arith in
-          record {
-            answer = ap (λ b. elim b as (λ _. Result ℕ ℕ) [ true ↦ Ok (length ns) | false ↦ Err 12 ]) (sym (lt-leb (length ns) (length before) past)) ∙ answer_is;
-            list = written ∙ list_is;
-            says = (
-              Ok s.weight,
-              asks.says,
-              (
-                d,
-                weight,
-                (
-                  subst (λ ms. length before < length ms) (sym nodes) past,
-                  written ∙ over_short ns before (omega arith) ∙ ap (λ ms. take (length before) ms) (sym nodes),
-                ),
-              ),
-            );
-          }
-
-      -- by whether there was room for all
-      pub read_by : (after walked : List Node) → after ≡ walked → (o : Option ℕ) → Wrote ns before walked 0 o → (r : Result ℕ ReadingRefusal) → r ≡ ok_or o TooShort → Read after r
-      read_by after walked same o wrote r is = subst₂ Read (sym same) (sym is) (go o wrote)
-        where
-          go : (m : Option ℕ) → Wrote ns before walked 0 m → Read walked (ok_or m TooShort)
-          go None h = first_read walked h
-          go (Some n) h = all_read walked n h
+    -- there was not
+    pub first_read : (after : List Node) → Wrote ns before after 0 None → Reads after (Err 12)
+    first_read after (written, short) =
+        let past : length before < length ns = omega arith in
+        record {
+          answer = ap (λ b. elim b as (λ _. Result ℕ ℕ) [ true ↦ Ok (length ns) | false ↦ Err 12 ]) (sym (lt-leb (length ns) (length before) past)) ∙ answer_is;
+          list = written ∙ list_is;
+        }
 
 -- THE WEIGHT BESIDE A READING
 
-pub listed_says : {t : Task} {c : Chart} {x i j : ℕ} {before after : List Node} {w n : ℕ} →
-    SettledSays t c x i j (Ok w) → ReadingSays t c x i j before after (Ok n) → ListedSays t c x i j before after (Ok (record { weight = w; nodes = n }))
+pub listed_says : {t : Task} {c : Chart} {p : Phrase} {before after : List Node} {w n : ℕ} →
+    SettledSays t room c p (Ok w) → ReadingSays t room c p before after (Ok n) → ListedSays t c p before after (Ok (record { weight = w; nodes = n }))
 listed_says {w = w} says (Ok v, told_so, wrote) =
     let same : v ≡ w = some_same (sym ((told_so.tells.finished v).0 refl) ∙ (says.tells.finished w).0 refl) in
     (Ok v, told_so, wrote, ap Ok same)
-listed_says says (Err refusal, told_so, wrote) = absurd wrote
+listed_says {n = n} says (Err refusal, told_so, (same, kept)) = absurd (let e : ◌≡◌ {A = Result ℕ ℕ} (Ok n) (Err refusal) = same in cc)

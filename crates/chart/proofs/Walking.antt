@@ -11,7 +11,7 @@ use Rattle.chart_model.specs.declared.origin.Origin.{Origin}
 use Rattle.chart_model.specs.declared.origin.Origin.TheVariants.{Word, Empty, First, Next}
 use Rattle.chart_model.specs.declared.node.Node.{Node}
 use Rattle.chart_model.specs.declared.place.Place.{Place}
-use Rattle.chart_model.proofs.Lightest.{done_within}
+use Rattle.chart_model.proofs.Done.{done_within}
 use Rattle.chart_model.proofs.Members.{some_same}
 use Rattle.chart_model.proofs.Numbering.{earlier_parts, earlier_of, number_shut, names_before}
 use Rattle.chart_model.proofs.Readings.{followed_at}

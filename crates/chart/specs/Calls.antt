@@ -1,19 +1,20 @@
 -- Calls on a chart in order: what each answers, what they leave, and what their answers say. Assumes nothing.
-use Rattle.std.specs.Prelude.{◌≡◌, ℕ, Bool, true, false, List, [], ◌∷◌, ◌⊎◌, Some, None, Ok, Option, Result}
+use Rattle.std.specs.Prelude.{◌≡◌, ⊤, ℕ, Bool, true, false, List, [], ◌∷◌, fold, ◌⊎◌, Some, None, Ok, Option, Result}
+use Rattle.std.specs.List.{AllByRecursion, AllZip}
 use Rattle.std.specs.Borrow.{MutBor}
 use Rattle.std.proofs.Common.{inl, inr}
 use Rattle.chart_model.specs.Task.{Task}
-use Rattle.chart_model.specs.Plain.{Chart, opened, step, step_answer, settled, working_answer, settled_answer}
+use Rattle.chart_model.specs.Plain.{Chart, edge_of, opened, step, step_answer, settled, working_answer, settled_answer}
 use Rattle.chart_model.specs.Stands.{Weighs, NoneLighter}
+use Rattle.chart_model.specs.Saying.{SettledSays}
+use Rattle.chart_model.specs.declared.phrase.Phrase.{Phrase}
 use Rattle.chart.specs.declared.refusal.StepRefusal.{StepRefusal}
 use Rattle.chart.specs.declared.refusal.QuestionRefusal.{QuestionRefusal}
 use Rattle.chart.specs.declared.refusal.SettledRefusal.{SettledRefusal}
 use Rattle.chart.specs.declared.call.Call.{Call}
 use Rattle.chart.specs.declared.call.Call.TheVariants.{Step, Question as Asks}
 use Rattle.chart.specs.declared.call.Question.{Question}
-use Rattle.chart.specs.Phrases.{edge_of}
 use Rattle.chart.specs.Refusals.{step_number, question_number, settled_number, told}
-use Rattle.chart.specs.Saying.{SettledSays}
 use Rattle.chart.specs.View.{room}
 
 -- a question to a settled chart
@@ -22,34 +23,27 @@ FinalQuestion = Question SettledRefusal
 
 -- ONE AFTER THE OTHER
 
--- what a list leaves of a state, where each of its elements changes it
-abbrev pub after_all : {X C : Type 0} → (X → C → C) → List X → C → C
-after_all next [] c = c
-after_all next (x ∷ xs) c = after_all next xs (next x c)
-
 -- the elements of one list have become those of the other, in order, each at the state that those before it left
-abbrev pub InTurn : {X C : Type 0} → (X → C → C) → (C → X → X → Type 0) → C → List X → List X → Type 0
-InTurn next becomes c [] [] = Unit {0}
+abbrev pub InTurn : {X C : Type 0} → (C → X → C) → (C → X → X → Type 0) → C → List X → List X → Type 0
+InTurn next becomes c [] [] = ⊤
 InTurn next becomes c [] (y ∷ ys) = ⊥
 InTurn next becomes c (x ∷ xs) [] = ⊥
-InTurn next becomes c (x ∷ xs) (y ∷ ys) = becomes c x y × InTurn next becomes (next x c) xs ys
+InTurn next becomes c (x ∷ xs) (y ∷ ys) = becomes c x y × InTurn next becomes (next c x) xs ys
 
 -- WHICH CALLS WERE MADE, AND WHAT THEY ANSWERED
 
 -- a question changes nothing
-abbrev pub after_call : Task → Call → Chart → Chart
-after_call t (Step a) c = step t room c
-after_call t (Asks q) c = c
+abbrev pub after_call : Task → Chart → Call → Chart
+after_call t c (Step a) = step t room c
+after_call t c (Asks q) = c
 
-abbrev pub after_calls : Task → List Call → Chart → Chart
-after_calls t calls c = after_all (after_call t) calls c
+abbrev pub after_calls : Task → Chart → List Call → Chart
+after_calls t c calls = fold (after_call t) c calls
 
 -- the question has become one with its answer, by the number of its refusal
-abbrev pub Answered : {E : Type 0} → (E → ℕ) → (ℕ → ℕ → ℕ → Result ℕ ℕ) → Question E → Question E → Type 0
+abbrev pub Answered : {E : Type 0} → (E → ℕ) → (Phrase → Result ℕ ℕ) → Question E → Question E → Type 0
 Answered {E = E} number answer q asked =
-    (r : Result ℕ E)
-    × (asked ≡ record { phrase = q.phrase; answer = Some r })
-    × (told number r ≡ answer q.phrase.symbol q.phrase.from q.phrase.to)
+    (r : Result ℕ E) × (asked ≡ record { phrase = q.phrase; answer = Some r }) × (told number r ≡ answer q.phrase)
 
 -- the call was made at this chart, and has its answer
 abbrev pub Made : Task → Chart → Call → Call → Type 0
@@ -65,14 +59,17 @@ abbrev pub Asked : Task → Chart → FinalQuestion → FinalQuestion → Type 0
 Asked t c q made = Answered settled_number (settled_answer t c) q made
 
 abbrev pub AllAsked : Task → Chart → List FinalQuestion → List FinalQuestion → Type 0
-AllAsked t c questions made = InTurn (λ _ d. d) (Asked t) c questions made
+AllAsked t c questions made = AllZip (Asked t c) questions made
 
 -- the chart that is opened, called, and then settled or not
 abbrev pub run_chart : Task → List Call → Bool → Chart
-run_chart t calls settles = elim settles [ true ↦ settled t room (after_calls t calls (opened t room)) | false ↦ after_calls t calls (opened t room) ]
+run_chart t calls settles =
+    let c = after_calls t (opened t room) calls in
+    elim settles [ true ↦ settled t room c | false ↦ c ]
 
 -- so of the questions that are lent, as they were and as they are left, if there are any
-abbrev pub Lent : (List FinalQuestion → List FinalQuestion → Type 0) → Option (MutBor (List FinalQuestion)) → Unit {0} ⊎ ((MutBor (List FinalQuestion) × Unit {0}) ⊎ ⊥) → Type 0
+abbrev pub Lent : (List FinalQuestion → List FinalQuestion → Type 0) → Option (MutBor (List FinalQuestion)) →
+    Unit {0} ⊎ ((MutBor (List FinalQuestion) × Unit {0}) ⊎ ⊥) → Type 0
 Lent So None left = Unit {0}
 Lent So (Some before) (inr (inl after)) = So before.now after.0.now
 Lent So (Some before) _ = ⊥
@@ -80,13 +77,16 @@ Lent So (Some before) _ = ⊥
 -- WHAT THE ANSWERS SAY OF DERIVATIONS
 
 -- a weight that was answered is that of a derivation, and none is lighter
-abbrev pub LightestTold : Task → List Call → Type 0
-LightestTold t [] = Unit {0}
-LightestTold t (Step a ∷ calls) = LightestTold t calls
-LightestTold t (Asks q ∷ calls) =
-    ((w : ℕ) → q.answer ≡ Some (Ok w) → Weighs t (edge_of q.phrase) w × NoneLighter t (edge_of q.phrase) w) × LightestTold t calls
+abbrev pub TellsLightest : Task → Call → Type 0
+TellsLightest t (Step a) = ⊤
+TellsLightest t (Asks q) = (w : ℕ) → q.answer ≡ Some (Ok w) → Weighs t (edge_of q.phrase) w × NoneLighter t (edge_of q.phrase) w
 
--- each answer of a settled chart is true, and exact
+abbrev pub LightestTold : Task → List Call → Type 0
+LightestTold t calls = AllByRecursion (TellsLightest t) calls
+
+-- the answer of a settled chart is true, and exact
+abbrev pub TellsTruth : Task → Chart → FinalQuestion → Type 0
+TellsTruth t c q = (r : Result ℕ SettledRefusal) → q.answer ≡ Some r → SettledSays t room c q.phrase (told settled_number r)
+
 abbrev pub TruthTold : Task → Chart → List FinalQuestion → Type 0
-TruthTold t c [] = Unit {0}
-TruthTold t c (q ∷ qs) = ((r : Result ℕ SettledRefusal) → q.answer ≡ Some r → SettledSays t c q.phrase.symbol q.phrase.from q.phrase.to r) × TruthTold t c qs
+TruthTold t c questions = AllByRecursion (TellsTruth t c) questions

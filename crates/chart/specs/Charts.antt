@@ -1,8 +1,7 @@
--- What a chart was opened over, and what it holds. Assumes nothing.
-use Rattle.std.specs.Prelude.{ℕ, List}
-use Rattle.weighing.specs.Laws.{Weights}
-use Rattle.grammar.specs.Rules.{Rule}
-use Rattle.lattice.specs.declared.word.Word.{Word}
+-- What a chart is opened over, and what its table holds. Assumes nothing.
+use Rattle.weighing.specs.declared.Weighing.{Ghosts as WeighingGhosts}
+use Rattle.grammar.specs.declared.Grammar.{Ghosts as GrammarGhosts}
+use Rattle.lattice.specs.declared.Lattice.{Ghosts as LatticeGhosts}
 use Rattle.chart_model.specs.Task.{Task}
 use Rattle.chart_model.specs.Plain.{Chart}
 use Rattle.chart.specs.declared.setting.Setting.{Setting}
@@ -10,9 +9,9 @@ use Rattle.chart.specs.declared.table.Table.{Table}
 use Rattle.chart.specs.View.{view}
 
 -- what grammar, lattice and weighing mean together
-abbrev pub task_of : {G L W : Type 0} → (G → List Rule) → (L → ℕ) → (L → List Word) → (W → Weights) → Setting G L W → Task
-task_of rules last words weights s =
-    record { rules = rules s.grammar; last = last s.lattice; words = words s.lattice; weights = weights s.weighing }
+abbrev pub task_of : {G L W : Type 0} → GrammarGhosts G → LatticeGhosts L → WeighingGhosts W → Setting G L W → Task
+task_of g l w s =
+    record { rules = g.rules s.grammar; last = l.last s.lattice; words = l.words s.lattice; weights = w.weights s.weighing }
 
 -- the plain chart that a table holds
 abbrev pub held : Table → Chart

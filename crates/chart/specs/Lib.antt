@@ -1,9 +1,11 @@
 pub mod View
 pub mod Charts
+pub mod Working
+pub mod Settled
+pub mod Outcomes
 pub mod Bringing
 pub mod Refusals
-pub mod Stepping
-pub mod Phrases
+pub mod Finding
 pub mod Saying
 pub mod Calls
 pub mod Reading

@@ -1,12 +1,14 @@
--- Nodes written over a caller's list, from a place of it on. Assumes nothing.
+-- The nodes of a finished edge, and nodes written over a caller's list, from a place of it on. Assumes nothing.
 use Rattle.std.specs.Prelude.{◌≡◌, ℕ, zero, suc, ◌+◌, ◌<◌, ◌≤◌, List, [], ◌∷◌, length, Some, None, Option, Result, MatchOption}
 use Rattle.std.specs.List.{slice_get}
 use Rattle.std.specs.Option.{option_map}
 use Rattle.std.specs.Result.{result_ok}
-use Rattle.chart_model.specs.Reading.{named, over}
+use Rattle.chart_model.specs.Reading.{named, over, reading_at}
 use Rattle.chart_model.specs.declared.node.Node.{Node}
 use Rattle.chart_model.specs.declared.place.Place.{Place}
 use Rattle.chart.specs.declared.listing.Listing.{Listing}
+use Rattle.chart.specs.declared.reading.FinishedAt.{FinishedAt}
+use Rattle.chart.specs.Charts.{held}
 
 -- the node of an edge itself, without those below it; an active edge has none
 abbrev pub own : List Place → Place → List Node
@@ -14,6 +16,16 @@ own ps p = named ps (λ _. []) p.edge p.origin
 
 abbrev pub own_at : List Place → ℕ → List Node
 own_at ps n = elim (slice_get ps n) [ None ↦ [] | Some p ↦ own ps p ]
+
+-- the places among which a finished edge stands, its own node, and all its nodes
+abbrev pub places_of : FinishedAt → List Place
+places_of s = (held s.table.now).places
+
+abbrev pub own_nodes : FinishedAt → List Node
+own_nodes s = own_at (places_of s) s.at
+
+abbrev pub all_nodes : FinishedAt → List Node
+all_nodes s = reading_at (places_of s) s.at
 
 -- nodes over a list after its first so many, as many as there is room for
 abbrev pub over_from : ℕ → List Node → List Node → List Node

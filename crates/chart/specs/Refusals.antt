@@ -1,5 +1,6 @@
 -- The numbers of the refusals. Assumes nothing.
-use Rattle.std.specs.Prelude.{ℕ, Ok, Err, Result}
+use Rattle.std.specs.Prelude.{ℕ, Result}
+use Rattle.std.specs.Result.{result_map_both}
 use Rattle.chart.specs.declared.refusal.StepRefusal.{StepRefusal}
 use Rattle.chart.specs.declared.refusal.StepRefusal.TheVariants as Step
 use Rattle.chart.specs.declared.refusal.QuestionRefusal.{QuestionRefusal}
@@ -31,6 +32,5 @@ abbrev pub as_reading : SettledRefusal → ReadingRefusal
 as_reading refusal = Reading.Unanswered refusal
 
 -- an answer with the number of its refusal
-abbrev pub told : {E : Type 0} → (E → ℕ) → Result ℕ E → Result ℕ ℕ
-told number (Ok n) = Ok n
-told number (Err e) = Err (number e)
+abbrev pub told : {A E : Type 0} → (E → ℕ) → Result A E → Result A ℕ
+told number r = result_map_both (λ a. a) number r

@@ -1,114 +1,52 @@
--- What charts, and their answers to questions, say of derivations. Assumes nothing.
-use Rattle.std.specs.Prelude.{◌≡◌, ℕ, ◌<◌, ◌≤◌, Bool, true, false, List, ◌++◌, length, take, drop, Ok, Err, Result, IfOk}
-use Rattle.std.specs.Option.{ok_or}
+-- What a chart that is opened and settled in one call answers, and what it says of derivations. Assumes nothing.
+use Rattle.std.specs.Prelude.{◌≡◌, ℕ, List, Ok, Err, Result, IfOk}
 use Rattle.std.specs.Result.{result_map_both}
 use Rattle.chart_model.specs.Task.{Task}
-use Rattle.chart_model.specs.Derivation.{Derives, LiesWithin, Tree, tree_weight}
-use Rattle.chart_model.specs.Listing.{tree_nodes}
-use Rattle.chart_model.specs.Plain.{Chart, settled, is_stretch, carried, settled_answer}
-use Rattle.chart_model.specs.Stands.{Carries, Unfinished, Weighs, NoneLighter, Over, after}
-use Rattle.chart_model.specs.Reading.{reading_answer}
-use Rattle.chart_model.specs.declared.edge.Edge.TheVariants.{Passive}
+use Rattle.chart_model.specs.Plain.{Chart, opened, settled, settled_answer}
+use Rattle.chart_model.specs.Reading.{reading_answer, reading_list}
+use Rattle.chart_model.specs.Saying.{SettledSays, Written}
 use Rattle.chart_model.specs.declared.node.Node.{Node}
-use Rattle.chart_model.specs.declared.place.Standing.{Standing}
-use Rattle.chart.specs.declared.refusal.QuestionRefusal.{QuestionRefusal}
-use Rattle.chart.specs.declared.refusal.QuestionRefusal.TheVariants as Question
-use Rattle.chart.specs.declared.refusal.SettledRefusal.{SettledRefusal}
-use Rattle.chart.specs.declared.refusal.SettledRefusal.TheVariants as Final
+use Rattle.chart_model.specs.declared.phrase.Phrase.{Phrase}
 use Rattle.chart.specs.declared.read.Listed.{Listed}
-use Rattle.chart.specs.declared.refusal.ReadingRefusal.{ReadingRefusal}
-use Rattle.chart.specs.declared.refusal.ReadingRefusal.TheVariants as Reading
-use Rattle.chart.specs.View.{room, standing_of}
+use Rattle.chart.specs.View.{room}
 
--- WHERE A CHART COMES FROM
+-- the chart that is opened and settled
+abbrev pub whole : Task → Chart
+whole t = settled t room (opened t room)
 
--- the chart after some number of steps from its opening
-abbrev pub FromOpening : Task → Chart → Type 0
-FromOpening t c = (n : ℕ) × (c ≡ after t room n)
+-- WEIGHED
 
--- such a chart, settled
-abbrev pub FromSettling : Task → Chart → Type 0
-FromSettling t c = (n : ℕ) × (c ≡ settled t room (after t room n))
+abbrev pub weigh_answer : Task → Phrase → Result ℕ ℕ
+weigh_answer t p = settled_answer t (whole t) p
 
--- ANSWERS TO QUESTIONS
+abbrev pub WeighedSays : Task → Phrase → Result ℕ ℕ → Type 0
+WeighedSays t p answer = SettledSays t room (whole t) p answer
 
-abbrev pub Exactly : Type 0 → Type 0 → Type 0
-Exactly A B = (A → B) × (B → A)
+-- READ, the weight beside the number of nodes
 
--- the weight of a symbol over a stretch, or one of two refusals: for no stretch of the lattice, and for an edge that is not finished
-abbrev pub asked : {E : Type 0} → E → E → ℕ → Chart → ℕ → ℕ → ℕ → Result ℕ E
-asked outside missing last c x i j = elim (is_stretch last i j) [ true ↦ ok_or (carried (Passive x i j) c.places) missing | false ↦ Err outside ]
-
--- why an edge is not finished in a settled chart, by whether the chart is full
-abbrev pub missing_from : Bool → SettledRefusal
-missing_from full = elim full [ true ↦ Final.Full | false ↦ Final.NoDerivation ]
-
--- a symbol over a stretch with its place in a settled chart, or why it is not finished there
-abbrev pub found_in : ℕ → Chart → ℕ → ℕ → ℕ → Result Standing SettledRefusal
-found_in last c x i j = elim (is_stretch last i j) [ true ↦ ok_or (standing_of (Passive x i j) c.places) (missing_from c.full) | false ↦ Err Final.NoStretch ]
-
--- what an answer about a symbol over a stretch says, whatever chart gives it
-pub record Tells {E : Type 0} (outside : E) (t : Task) (c : Chart) (x i j : ℕ) (answer : Result ℕ E) : Type 0 where
-  -- it is refused as no stretch exactly where it runs back, or past the last node
-  pub stretch : Exactly (answer ≡ Err outside) (LiesWithin t.last (Passive x i j) → ⊥)
-  -- a weight is answered exactly where the edge is finished and carries it
-  pub finished : (w : ℕ) → Exactly (answer ≡ Ok w) (Carries c (Passive x i j) w)
-  -- the edge has a derivation of that weight, and none is lighter
-  pub derived : (w : ℕ) → answer ≡ Ok w → Weighs t (Passive x i j) w
-  pub least : (w : ℕ) → answer ≡ Ok w → NoneLighter t (Passive x i j) w
-
--- what a working chart's answer says
-pub record WorkingSays (t : Task) (c : Chart) (x i j : ℕ) (answer : Result ℕ QuestionRefusal) : Type 0 where
-  pub tells : Tells Question.NoStretch t c x i j answer
-  -- it is refused as not finished exactly where it is not, within the lattice
-  pub not_finished : Exactly (answer ≡ Err Question.NotFinished) (LiesWithin t.last (Passive x i j) × Unfinished c (Passive x i j))
-
--- what a settled chart's answer says
-pub record SettledSays (t : Task) (c : Chart) (x i j : ℕ) (answer : Result ℕ SettledRefusal) : Type 0 where
-  pub tells : Tells Final.NoStretch t c x i j answer
-  -- an edge that is not finished is refused by a full chart exactly where more edges have derivations than there is room for
-  pub full : Exactly (answer ≡ Err Final.Full) (LiesWithin t.last (Passive x i j) × Unfinished c (Passive x i j) × Over t room)
-  -- and otherwise has no derivation, exactly where it has none
-  pub no_derivation : Exactly (answer ≡ Err Final.NoDerivation)
-      (LiesWithin t.last (Passive x i j) × (Over t room → ⊥) × (Derives t (Passive x i j) → ⊥))
-
--- READINGS
-
--- all nodes of a derivation are in the list, before what else was there
-abbrev pub AllListed : {t : Task} {x i j : ℕ} → Tree t x i j → List Node → List Node → ℕ → Type 0
-AllListed d before after n = (n ≡ length (tree_nodes d)) × (n ≤ length before) × (after ≡ tree_nodes d ++ drop n before)
-
--- the list has no room for all of them, and has the first
-abbrev pub FirstListed : {t : Task} {x i j : ℕ} → Tree t x i j → List Node → List Node → Type 0
-FirstListed d before after = (length before < length (tree_nodes d)) × (after ≡ take (length before) (tree_nodes d))
-
--- what a reading answers and leaves where a question is answered so:
--- beside a weight, the nodes of a derivation of just that weight, and beside a refusal, the refusal and the list as it was
-abbrev pub Written : Task → ℕ → ℕ → ℕ → List Node → List Node → Result ℕ SettledRefusal → Result ℕ ReadingRefusal → Type 0
-Written t x i j before after (Ok w) (Ok n) = (d : Tree t x i j) × (tree_weight d ≡ w) × AllListed d before after n
-Written t x i j before after (Ok w) (Err Reading.TooShort) = (d : Tree t x i j) × (tree_weight d ≡ w) × FirstListed d before after
-Written t x i j before after (Err refusal) (Err (Reading.Unanswered other)) = (other ≡ refusal) × (after ≡ before)
-Written t x i j before after (Ok w) (Err (Reading.Unanswered other)) = ⊥
-Written t x i j before after (Err refusal) (Ok n) = ⊥
-Written t x i j before after (Err refusal) (Err Reading.TooShort) = ⊥
-
--- what a settled chart's reading says: what an answer to the question says, and that it was written so
-abbrev pub ReadingSays : Task → Chart → ℕ → ℕ → ℕ → List Node → List Node → Result ℕ ReadingRefusal → Type 0
-ReadingSays t c x i j before after answer = (q : Result ℕ SettledRefusal) × SettledSays t c x i j q × Written t x i j before after q answer
+-- so many nodes beside a weight
+abbrev pub beside : ℕ → Result ℕ ℕ → Result Listed ℕ
+beside w r = result_map_both (λ n. record { weight = w; nodes = n }) (λ e. e) r
 
 -- the number of nodes alone
-abbrev pub nodes_of : Result Listed ReadingRefusal → Result ℕ ReadingRefusal
+abbrev pub nodes_of : Result Listed ℕ → Result ℕ ℕ
 nodes_of answer = result_map_both (λ (l : Listed). l.nodes) (λ e. e) answer
 
--- what a reading says where the weight is told beside it: all of the above, and that it is the weight in the question's answer
-abbrev pub ListedSays : Task → Chart → ℕ → ℕ → ℕ → List Node → List Node → Result Listed ReadingRefusal → Type 0
-ListedSays t c x i j before after answer =
-    (q : Result ℕ SettledRefusal) × SettledSays t c x i j q × Written t x i j before after q (nodes_of answer) × IfOk answer (λ l. q ≡ Ok l.weight)
+-- a settled chart's reading, with the weight beside it
+abbrev pub listed_answer : Task → Chart → Phrase → ℕ → Result Listed ℕ
+listed_answer t c p most = elim (settled_answer t c p) [ Ok w ↦ beside w (reading_answer t c p most) | Err number ↦ Err number ]
 
--- a reading's answer by number, with the weight beside it
-abbrev pub listed_answer : Task → Chart → ℕ → ℕ → ℕ → ℕ → Result Listed ℕ
-listed_answer t c x i j most =
-    elim (settled_answer t c x i j) [
-      | Ok w ↦ result_map_both (λ n. record { weight = w; nodes = n }) (λ e. e) (reading_answer t c x i j most)
-      | Err number ↦ Err number
-    ]
+abbrev pub read_answer : Task → Phrase → ℕ → Result Listed ℕ
+read_answer t p most = listed_answer t (whole t) p most
+
+abbrev pub read_list : Task → Phrase → List Node → List Node
+read_list t p before = reading_list t (whole t) p before
+
+-- what such an answer says: what an answer to the question says, that the reading was written so, and that the weight is the one in
+-- that answer
+abbrev pub ListedSays : Task → Chart → Phrase → List Node → List Node → Result Listed ℕ → Type 0
+ListedSays t c p before after answer =
+    (asked : Result ℕ ℕ) × SettledSays t room c p asked × Written t p before after asked (nodes_of answer) × IfOk answer (λ l. asked ≡ Ok l.weight)
+
+abbrev pub ReadSays : Task → Phrase → List Node → List Node → Result Listed ℕ → Type 0
+ReadSays t p before after answer = ListedSays t (whole t) p before after answer

@@ -1,11 +1,12 @@
 -- What the places of a chart mean. Assumes nothing.
-use Rattle.std.specs.Prelude.{◌≡◌, ℕ, suc, true, List, Some, None, Option}
+use Rattle.std.specs.Prelude.{◌≡◌, ℕ, suc, true, List, [], ◌∷◌, ◌++◌, take, Some, None, Option}
 use Rattle.std.specs.List.{slice_get}
+use Rattle.weighing.specs.Laws.{Weights}
+use Rattle.chart_model.specs.declared.place.Arrival.{Arrival}
 use Rattle.chart_model.specs.declared.place.Place.{Place}
 use Rattle.chart_model.specs.declared.place.Standing.{Standing}
-use Rattle.chart_model.specs.Plain.{Chart, standing, finishing}
-use Rattle.chart_model.specs.Standings.{place_of}
-use Rattle.chart_model.specs.Origins.{earlier}
+use Rattle.chart_model.specs.Plain.{Chart, fresh, lightened, modified, lightest_open, arrive, place_of, standing, finishing}
+use Rattle.chart_model.specs.Origins.{earlier, names_earlier}
 use Rattle.chart_model.specs.declared.edge.Edge.{Edge}
 use Rattle.chart.specs.declared.places.Places.{Places}
 
@@ -15,7 +16,23 @@ room = 1024
 
 -- the plain chart that places hold
 abbrev pub view : Places → Chart
-view p = record { places = p.slots.items; full = p.full; finished = p.finished }
+view p = record { places = take p.taken p.slots; full = p.full; finished = p.finished }
+
+-- with a new edge at the next place
+abbrev pub put : Chart → Arrival → Chart
+put c a = record { places = c.places ++ (fresh a ∷ []); full = c.full; finished = c.finished }
+
+-- with a lighter weight, and its origin, at a place
+abbrev pub improve : Chart → ℕ → Arrival → Chart
+improve c n a = record { places = modified (lightened a) n c.places; full = c.full; finished = c.finished }
+
+-- the lightest open edge
+abbrev pub lightest_in : Weights → Chart → Option Standing
+lightest_in ws c = lightest_open ws.lighter c.places
+
+-- with one more arrival
+abbrev pub arrived : Weights → Chart → Arrival → Chart
+arrived ws c a = arrive room ws.lighter c a
 
 -- the finished edge at a place
 abbrev pub standing_at : List Place → ℕ → Option Standing
@@ -33,3 +50,7 @@ finishing_next c (Some s) = finishing c s.at
 -- an origin may name the edge at a place, which has been finished
 abbrev pub Named : Chart → ℕ → Type 0
 Named c n = earlier c.places (suc c.finished) n ≡ true
+
+-- the origin of an arrival names only such edges
+abbrev pub NamesEarlier : Chart → Arrival → Type 0
+NamesEarlier c a = names_earlier c.places (suc c.finished) a.origin ≡ true

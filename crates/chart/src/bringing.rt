@@ -1,10 +1,8 @@
 // What numbered things bring arrives at a table, one after the other.
-ghost use Rattle.std.specs.Prelude.{◌≡◌, ◌<◌, ℕ, Option};
+ghost use Rattle.std.specs.Prelude.{◌<◌, ℕ};
 ghost use Rattle.std.specs.Borrow.{Bor};
-ghost use Rattle.chart_model.specs.declared.place.Arrival.{Arrival};
 ghost use Rattle.chart.specs.declared.table.Table.{Table};
-ghost use Rattle.chart.specs.Bringing.{brought, AnyBrought, NamesFinished, Arrived};
-ghost use Rattle.chart.specs.Charts.{held};
+ghost use Rattle.chart.specs.Bringing.{AllNamed, Brought};
 
 use crate::setting::Setting;
 use crate::table::Table;
@@ -22,8 +20,8 @@ impl<G: Grammar, L: Lattice, W: Weighing> Setting<G, L, W> {
         brings: F,
     )
         requires callable { (t : Bor Table) (n : ℕ) → n < count → F.pre brings t n }
-        requires named { AnyBrought (F.post brings) (W.weights self.now.weighing).lighter (held table.old) count (λ c n r. NamesFinished c r) }
-        ensures { (f : ℕ → Option Arrival) → AnyBrought (F.post brings) (W.weights self.now.weighing).lighter (held table.old) count (λ c n r. r ≡ f n) → Arrived (W.weights self.now.weighing) table.old (brought f 0 count) table.new }
+        requires named { AllNamed (F.post brings) (W.weights self.now.weighing) count table.old }
+        ensures { Brought (F.post brings) (W.weights self.now.weighing) count table.old table.new }
     {
         for n in 0..count {
             if let Some(arrival) = brings(table, n) {

@@ -7,7 +7,6 @@ mod listing;
 mod meeting;
 mod opening;
 pub mod outcome;
-pub mod phrase;
 mod places;
 pub mod read;
 mod reading;

@@ -1,7 +1,7 @@
 // What finished edges bring.
 ghost use Rattle.std.specs.Prelude.{◌≡◌};
-ghost use Rattle.chart_model.specs.Plain.{rule_brings, takes};
-ghost use Rattle.chart.specs.Bringing.{brought_by, reached_by, meet};
+ghost use Rattle.chart.specs.Bringing.{begun_rule, joined, met, reached_by};
+ghost use Rattle.chart.specs.Charts.{task_of};
 
 use crate::setting::Setting;
 use chart_model::edge::Edge;
@@ -31,13 +31,21 @@ impl<G: Grammar, L: Lattice, W: Weighing> Setting<G, L, W> {
 
     // What a rule brings that begins with a finished edge.
     pub(crate) fn begin(&self, rule: u8, child: Standing) -> Option<Arrival>
-        ensures { result ≡ brought_by (rule_brings (W.weights self.now.weighing) child) (G.rules self.now.grammar) rule }
+        ensures { result ≡ begun_rule (task_of G.Grammar L.Lattice W.Weighing self.now) child rule }
     {
         // What kind an edge is of is no option, so `?` has nothing to pass on; the same in `take`.
-        let Edge::Passive { symbol, from, to } = child.edge else {
+        let Edge::Passive {
+            symbol: found,
+            from,
+            to,
+        } = child.edge
+        else {
             return None;
         };
-        if self.grammar.right(usize::from(rule), 0)? != symbol {
+        let Some(symbol) = self.grammar.right(usize::from(rule), 0) else {
+            return None;
+        };
+        if symbol != found {
             return None;
         }
         let edge = self.reached(rule, 1, from, to)?;
@@ -47,16 +55,12 @@ impl<G: Grammar, L: Lattice, W: Weighing> Setting<G, L, W> {
             rule,
             child: child.at,
         };
-        Some(Arrival {
-            edge,
-            weight,
-            origin,
-        })
+        Some(Arrival::new(edge, weight, origin))
     }
 
     // What an active edge brings with a passive edge that it takes next.
     fn take(&self, active: Standing, child: Standing) -> Option<Arrival>
-        ensures { result ≡ takes (G.rules self.now.grammar) (W.weights self.now.weighing) active child }
+        ensures { result ≡ joined (task_of G.Grammar L.Lattice W.Weighing self.now) active child }
     {
         let Edge::Active {
             rule,
@@ -68,7 +72,7 @@ impl<G: Grammar, L: Lattice, W: Weighing> Setting<G, L, W> {
             return None;
         };
         let Edge::Passive {
-            symbol,
+            symbol: found,
             from: starts,
             to,
         } = child.edge
@@ -78,8 +82,10 @@ impl<G: Grammar, L: Lattice, W: Weighing> Setting<G, L, W> {
         if meets != starts {
             return None;
         }
-        let wanted = self.grammar.right(usize::from(rule), usize::from(seen))?;
-        if wanted != symbol {
+        let Some(symbol) = self.grammar.right(usize::from(rule), usize::from(seen)) else {
+            return None;
+        };
+        if symbol != found {
             return None;
         }
         let edge = self.reached(rule, seen + 1, from, to)?;
@@ -88,16 +94,12 @@ impl<G: Grammar, L: Lattice, W: Weighing> Setting<G, L, W> {
             active: active.at,
             child: child.at,
         };
-        Some(Arrival {
-            edge,
-            weight,
-            origin,
-        })
+        Some(Arrival::new(edge, weight, origin))
     }
 
     // What two finished edges bring, whichever of them takes the other.
     pub(crate) fn meet(&self, one: Standing, other: Standing) -> Option<Arrival>
-        ensures { result ≡ meet (G.rules self.now.grammar) (W.weights self.now.weighing) one other }
+        ensures { result ≡ met (task_of G.Grammar L.Lattice W.Weighing self.now) one other }
     {
         self.take(one, other).or(self.take(other, one))
     }

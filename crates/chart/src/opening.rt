@@ -1,7 +1,8 @@
 // What arrives at a table when a chart is opened: words and empty rules.
-ghost use Rattle.std.specs.Prelude.{◌≡◌, suc};
-ghost use Rattle.chart_model.specs.Plain.{gathered, word_brings, empty_brings, nodes_bring};
-ghost use Rattle.chart.specs.Bringing.{brought_by, Arrived};
+ghost use Rattle.std.specs.Prelude.{◌≡◌};
+ghost use Rattle.chart.specs.Bringing.{heard_word, empty_rule, WordsArrived, EmptiesArrived};
+ghost use Rattle.chart.specs.Bringing.{NodesArrived};
+ghost use Rattle.chart.specs.Charts.{task_of};
 
 use crate::setting::Setting;
 use crate::table::Table;
@@ -15,7 +16,7 @@ use weighing::Weighing;
 impl<G: Grammar, L: Lattice, W: Weighing> Setting<G, L, W> {
     // What a word brings.
     fn word(&self, n: u8) -> Option<Arrival>
-        ensures { result ≡ brought_by (word_brings (W.weights self.now.weighing)) (L.words self.now.lattice) n }
+        ensures { result ≡ heard_word (task_of G.Grammar L.Lattice W.Weighing self.now) n }
     {
         let word = self.lattice.word(usize::from(n))?;
         let edge = Edge::Passive {
@@ -23,16 +24,13 @@ impl<G: Grammar, L: Lattice, W: Weighing> Setting<G, L, W> {
             from: word.from,
             to: word.to,
         };
-        Some(Arrival {
-            edge,
-            weight: self.weighing.weigh(word.mark),
-            origin: Origin::Word(n),
-        })
+        let weight = self.weighing.weigh(word.mark);
+        Some(Arrival::new(edge, weight, Origin::Word(n)))
     }
 
     // What a rule without right symbols brings at a node.
     fn empty(&self, node: u8, rule: u8) -> Option<Arrival>
-        ensures { result ≡ brought_by (empty_brings (W.weights self.now.weighing) node) (G.rules self.now.grammar) rule }
+        ensures { result ≡ empty_rule (task_of G.Grammar L.Lattice W.Weighing self.now) node rule }
     {
         if self.grammar.length(usize::from(rule))? != 0 {
             return None;
@@ -44,23 +42,22 @@ impl<G: Grammar, L: Lattice, W: Weighing> Setting<G, L, W> {
             from: node,
             to: node,
         };
-        Some(Arrival {
-            edge,
-            weight: self.weighing.weigh(mark),
-            origin: Origin::Empty(rule),
-        })
+        let weight = self.weighing.weigh(mark);
+        Some(Arrival::new(edge, weight, Origin::Empty(rule)))
     }
 
     // The words arrive, in order. Each number of a word or a rule fits 8 bits, so its cast is plainer than a test that cannot fail.
     pub(crate) fn word_arrivals(&self, table: &mut Table)
-        ensures { Arrived (W.weights self.now.weighing) table.old (gathered (word_brings (W.weights self.now.weighing)) 0 (L.words self.now.lattice)) table.new }
+        ensures { WordsArrived (task_of G.Grammar L.Lattice W.Weighing self.now)
+            table.old table.new }
     {
         self.bring_each(table, self.lattice.len(), |_, n| self.word(n as u8));
     }
 
     // The rules without right symbols arrive at a node, in order.
     fn empty_arrivals(&self, table: &mut Table, node: u8)
-        ensures { Arrived (W.weights self.now.weighing) table.old (gathered (empty_brings (W.weights self.now.weighing) node) 0 (G.rules self.now.grammar)) table.new }
+        ensures { EmptiesArrived (task_of G.Grammar L.Lattice W.Weighing self.now)
+            node table.old table.new }
     {
         self.bring_each(
             table,
@@ -71,7 +68,8 @@ impl<G: Grammar, L: Lattice, W: Weighing> Setting<G, L, W> {
 
     // They arrive at every node up to the last.
     pub(crate) fn node_arrivals(&self, table: &mut Table)
-        ensures { Arrived (W.weights self.now.weighing) table.old (nodes_bring (W.weights self.now.weighing) (G.rules self.now.grammar) 0 (suc (L.last self.now.lattice))) table.new }
+        ensures { NodesArrived (task_of G.Grammar L.Lattice W.Weighing self.now)
+            table.old table.new }
     {
         for node in 0..=self.lattice.last_node() {
             self.empty_arrivals(table, node);

@@ -1,36 +1,49 @@
 // What a run leaves.
 ghost use Rattle.std.specs.Prelude.{◌≡◌};
 ghost use Rattle.chart_model.specs.Plain.{carried};
-ghost use Rattle.chart.specs.Charts.{held};
 
-use crate::table::Table;
+use crate::setting::Setting;
+use crate::working::WorkingChart;
 use chart_model::edge::Edge;
+use grammar::Grammar;
+use lattice::Lattice;
+use weighing::Weighing;
 
-// The edges of a chart after its last call.
+/// The edges of a chart after its last call, and what it was opened over.
 #[derive(Drop)]
-pub struct Outcome {
-    pub(crate) table: Table,
+pub struct Outcome<G: Grammar, L: Lattice, W: Weighing> {
+    pub(crate) chart: WorkingChart<G, L, W>,
 }
 
-impl Outcome {
-    // The weight of an edge, if it is finished.
+impl<G: Grammar, L: Lattice, W: Weighing> Outcome<G, L, W> {
+    ghost use Rattle.chart.specs.Outcomes.{opened_over, chart};
+
+    /// The weight of an edge; none if it is not finished.
     pub fn weight(&self, edge: Edge) -> Option<u64>
-        ensures { result ≡ carried edge (held self.now.table).places }
+        ensures { result ≡ carried edge (chart self.now).places }
     {
-        self.table.carried(edge)
+        self.chart.table.carried(edge)
     }
 
-    // How many edges are finished.
+    /// How many edges are finished.
     pub fn finished(&self) -> u16
-        ensures { result ≡ (held self.now.table).finished }
+        ensures { result ≡ (chart self.now).finished }
     {
-        self.table.count()
+        self.chart.table.count()
     }
 
-    // Whether a new edge has found no place.
+    /// Whether a new edge has found no place.
     pub fn is_full(&self) -> bool
-        ensures { result ≡ (held self.now.table).full }
+        ensures { result ≡ (chart self.now).full }
     {
-        self.table.is_full()
+        self.chart.table.is_full()
+    }
+
+    /// Gives back what the chart was opened over.
+    pub fn into_setting(self) -> Setting<G, L, W>
+        ensures { result ≡ opened_over self }
+    {
+        let WorkingChart { setting, .. } = self.chart;
+        setting
     }
 }

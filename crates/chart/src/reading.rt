@@ -2,9 +2,8 @@
 ghost use Rattle.std.specs.Prelude.{◌≡◌, Some, length, OnErr};
 ghost use Rattle.std.specs.List.{slice_get};
 ghost use Rattle.std.specs.Option.{option_to_list};
-ghost use Rattle.chart_model.specs.Reading.{rule_at, reading_at};
+ghost use Rattle.chart_model.specs.Reading.{rule_at};
 ghost use Rattle.chart.specs.Charts.{held};
-ghost use Rattle.chart.specs.Reading.{own_at, Lists, SameList};
 ghost use Rattle.chart.specs.View.{Named};
 
 use crate::listing::{Listing, NoRoom};
@@ -23,9 +22,11 @@ pub(crate) struct FinishedAt<'a> {
 }
 
 impl<'a> FinishedAt<'a> {
+    ghost use Rattle.chart.specs.Reading.{places_of, own_nodes, all_nodes, Lists, SameList};
+
     // What stands at its place.
     fn place(&self) -> Place
-        ensures { slice_get (held self.now.table.now).places self.now.at ≡ Some result }
+        ensures { slice_get (places_of self.now) self.now.at ≡ Some result }
     {
         self.table.place(self.at)
     }
@@ -33,7 +34,7 @@ impl<'a> FinishedAt<'a> {
     // The rule of an active edge. An origin names only active ones here, which this type does not know: so 0 for a passive one, as
     // `rule_at` has it.
     fn rule(&self) -> u8
-        ensures { result ≡ rule_at (held self.now.table.now).places self.now.at }
+        ensures { result ≡ rule_at (places_of self.now) self.now.at }
     {
         match self.place().edge {
             Edge::Passive { .. } => 0,
@@ -43,7 +44,7 @@ impl<'a> FinishedAt<'a> {
 
     // The node of a passive edge, by its origin; an active edge has none.
     fn own_node(&self) -> Option<Node>
-        ensures { option_to_list result ≡ own_at (held self.now.table.now).places self.now.at }
+        ensures { option_to_list result ≡ own_nodes self.now }
     {
         let table = self.table;
         let place = self.place();
@@ -67,7 +68,7 @@ impl<'a> FinishedAt<'a> {
 
     // Writes its own node, where there is room.
     fn write_own(&self, listing: &mut Listing<'_>) -> Result<(), NoRoom>
-        ensures lists { Lists (own_at (held self.now.table.now).places self.now.at) listing.old listing.new result }
+        ensures lists { Lists (own_nodes self.now) listing.old listing.new result }
         ensures same { SameList listing.old listing.new }
         ensures full { OnErr result (listing.new.filled ≡ length listing.new.nodes.now) }
     {
@@ -80,7 +81,7 @@ impl<'a> FinishedAt<'a> {
     // Writes its nodes, as many as there is room for.
     // It ends since an origin names only edges that were finished before.
     pub(crate) fn walk(&self, listing: &mut Listing<'_>) -> Result<(), NoRoom>
-        ensures lists { Lists (reading_at (held self.now.table.now).places self.now.at) listing.old listing.new result }
+        ensures lists { Lists (all_nodes self.now) listing.old listing.new result }
         ensures same { SameList listing.old listing.new }
         ensures full { OnErr result (listing.new.filled ≡ length listing.new.nodes.now) }
     {

@@ -1,26 +1,27 @@
 // Why a chart refuses, each reason with its number.
 ghost use Rattle.std.specs.Prelude.{◌≡◌};
 ghost use Rattle.chart.specs.declared.refusal.ReadingRefusal.TheVariants.{TooShort};
-ghost use Rattle.chart.specs.Refusals.{step_number, question_number, settled_number, reading_number, as_reading};
+ghost use Rattle.chart.specs.Refusals.{step_number, question_number, settled_number};
+ghost use Rattle.chart.specs.Refusals.{reading_number, as_reading};
 
 use crate::listing::NoRoom;
 use records::numbered::Numbered;
 
-// A step is refused by a full chart, and where nothing is open.
+/// A step is refused by a full chart, and where nothing is open.
 #[derive(Clone, Copy, PartialEq, Eq, Debug)]
 pub enum StepRefusal {
     Full = 10, // before the step, or by it
     NothingOpen = 11,
 }
 
-// A working chart refuses what is no stretch of its lattice, and an edge that is not finished.
+/// A working chart refuses what is no stretch of its lattice, and an edge that is not finished.
 #[derive(Clone, Copy, PartialEq, Eq, Debug)]
 pub enum QuestionRefusal {
     NoStretch = 7,
     NotFinished = 8,
 }
 
-// A settled chart says of an edge that is not finished that it has no derivation, unless the chart is full.
+/// A settled chart says of an edge that is not finished that it has no derivation, unless the chart is full.
 #[derive(Clone, Copy, PartialEq, Eq, Debug)]
 pub enum SettledRefusal {
     NoStretch = 7,
@@ -28,7 +29,7 @@ pub enum SettledRefusal {
     Full = 10, // without the edge
 }
 
-// A reading is refused as a question to a settled chart is, and where it is longer than the list.
+/// A reading is refused as a question to a settled chart is, and where it is longer than the list.
 #[derive(Clone, Copy, PartialEq, Eq, Debug)]
 pub enum ReadingRefusal {
     Unanswered(SettledRefusal),

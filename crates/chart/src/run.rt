@@ -1,10 +1,13 @@
 // Runs: a new chart, a list of calls on it, and what they leave.
-ghost use Rattle.std.specs.Prelude.{◌≡◌, [], ◌∷◌, IsSome, is_some};
+ghost use Rattle.std.specs.Prelude.{◌≡◌, IsSome, is_some};
 ghost use Rattle.chart_model.specs.Plain.{opened};
 ghost use Rattle.chart_model.specs.Stands.{Stands, Settled};
-ghost use Rattle.chart.specs.Calls.{after_call, after_calls, Made, AllMade, AllAsked, run_chart, Lent, LightestTold, TruthTold};
-ghost use Rattle.chart.specs.Charts.{task_of, held};
+ghost use Rattle.chart.specs.Calls.{after_call, after_calls, TellsLightest, Made, AllMade};
+ghost use Rattle.chart.specs.Calls.{AllAsked, run_chart, Lent, LightestTold, TruthTold};
+ghost use Rattle.chart.specs.Outcomes as outcome;
+ghost use Rattle.chart.specs.Settled as final;
 ghost use Rattle.chart.specs.View.{room};
+ghost use Rattle.chart.specs.Working.{opened_over, task, chart as plain};
 
 use crate::call::{Call, FinalQuestion};
 use crate::outcome::Outcome;
@@ -17,10 +20,10 @@ use weighing::Weighing;
 
 // Makes a call, and notes its answer.
 fn make<G: Grammar, L: Lattice, W: Weighing>(chart: &mut WorkingChart<G, L, W>, call: &mut Call)
-    ensures made { Made (task_of G.rules L.last L.words W.weights chart.old.setting) (held chart.old.table) call.old call.new }
-    ensures left { held chart.new.table ≡ after_call (task_of G.rules L.last L.words W.weights chart.old.setting) call.old (held chart.old.table) }
-    ensures lightest { LightestTold (task_of G.rules L.last L.words W.weights chart.old.setting) (call.new ∷ []) }
-    ensures setting { chart.new.setting ≡ chart.old.setting }
+    ensures made { Made (task chart.old) (plain chart.old) call.old call.new }
+    ensures left { plain chart.new ≡ after_call (task chart.old) (plain chart.old) call.old }
+    ensures lightest { TellsLightest (task chart.old) call.new }
+    ensures setting { opened_over chart.new ≡ opened_over chart.old }
 {
     match call {
         Call::Step { answer } => *answer = Some(chart.step()),
@@ -33,10 +36,10 @@ fn make_all<G: Grammar, L: Lattice, W: Weighing>(
     chart: &mut WorkingChart<G, L, W>,
     calls: &mut [Call],
 )
-    ensures made { AllMade (task_of G.rules L.last L.words W.weights chart.old.setting) (held chart.old.table) calls.old calls.new }
-    ensures left { held chart.new.table ≡ after_calls (task_of G.rules L.last L.words W.weights chart.old.setting) calls.old (held chart.old.table) }
-    ensures lightest { LightestTold (task_of G.rules L.last L.words W.weights chart.old.setting) calls.new }
-    ensures setting { chart.new.setting ≡ chart.old.setting }
+    ensures made { AllMade (task chart.old) (plain chart.old) calls.old calls.new }
+    ensures left { plain chart.new ≡ after_calls (task chart.old) (plain chart.old) calls.old }
+    ensures lightest { LightestTold (task chart.old) calls.new }
+    ensures setting { opened_over chart.new ≡ opened_over chart.old }
 {
     for call in calls.iter_mut() {
         make(chart, call);
@@ -49,8 +52,9 @@ fn ask_all<G: Grammar, L: Lattice, W: Weighing>(
     chart: &SettledChart<G, L, W>,
     questions: &mut [FinalQuestion],
 )
-    ensures asked { AllAsked (task_of G.rules L.last L.words W.weights chart.now.setting) (held chart.now.table) questions.old questions.new }
-    ensures truth { TruthTold (task_of G.rules L.last L.words W.weights chart.now.setting) (held chart.now.table) questions.new }
+    ensures asked { AllAsked (final.task chart.now) (final.chart chart.now)
+        questions.old questions.new }
+    ensures truth { TruthTold (final.task chart.now) (final.chart chart.now) questions.new }
 {
     for question in questions.iter_mut() {
         question.answer = Some(chart.question(question.phrase));
@@ -62,36 +66,45 @@ fn begin<G: Grammar, L: Lattice, W: Weighing>(
     setting: Setting<G, L, W>,
     calls: &mut [Call],
 ) -> WorkingChart<G, L, W>
-    ensures made { AllMade (task_of G.rules L.last L.words W.weights setting) (opened (task_of G.rules L.last L.words W.weights setting) room) calls.old calls.new }
-    ensures left { held result.table ≡ after_calls (task_of G.rules L.last L.words W.weights setting) calls.old (opened (task_of G.rules L.last L.words W.weights setting) room) }
-    ensures lightest { LightestTold (task_of G.rules L.last L.words W.weights setting) calls.new }
-    ensures stands { Stands (task_of G.rules L.last L.words W.weights setting) (held result.table) }
-    ensures setting { result.setting ≡ setting }
+    ensures setting { opened_over result ≡ setting }
+    ensures made { AllMade (task result) (opened (task result) room) calls.old calls.new }
+    ensures left { plain result ≡ after_calls (task result) (opened (task result) room) calls.old }
+    ensures lightest { LightestTold (task result) calls.new }
+    ensures stands { Stands (task result) (plain result) }
 {
     let mut chart = WorkingChart::open(setting);
     make_all(&mut chart, calls);
     chart
 }
 
-// Opens a chart, makes calls on it, and then, if there are questions for it, settles it and asks them.
-pub fn run<G: Grammar + Drop, L: Lattice + Drop, W: Weighing + Drop>(
+/// Opens a chart, makes calls on it, and then, if there are questions for it, settles it and asks them. Answers, refusals too, are noted
+/// in the lists. What the chart was opened over stays with the outcome.
+pub fn run<G: Grammar, L: Lattice, W: Weighing>(
     setting: Setting<G, L, W>,
     calls: &mut [Call],
     questions: Option<&mut [FinalQuestion]>,
-) -> Outcome
-    ensures stands { Stands (task_of G.rules L.last L.words W.weights setting) (held result.table) }
-    ensures settled { IsSome questions.entry → Settled (task_of G.rules L.last L.words W.weights setting) room (held result.table) }
-    ensures lightest { LightestTold (task_of G.rules L.last L.words W.weights setting) calls.new }
-    ensures truth { Lent (λ before after. TruthTold (task_of G.rules L.last L.words W.weights setting) (held result.table) after) questions.entry questions.exit }
-    ensures called { held result.table ≡ run_chart (task_of G.rules L.last L.words W.weights setting) calls.old (is_some questions.entry) }
-    ensures made { AllMade (task_of G.rules L.last L.words W.weights setting) (opened (task_of G.rules L.last L.words W.weights setting) room) calls.old calls.new }
-    ensures asked { Lent (AllAsked (task_of G.rules L.last L.words W.weights setting) (held result.table)) questions.entry questions.exit }
+) -> Outcome<G, L, W>
+    ensures setting { outcome.opened_over result ≡ setting }
+    ensures stands { Stands (outcome.task result) (outcome.chart result) }
+    ensures settled { IsSome questions.entry →
+        Settled (outcome.task result) room (outcome.chart result) }
+    ensures lightest { LightestTold (outcome.task result) calls.new }
+    ensures truth { Lent (λ _ after. TruthTold (outcome.task result) (outcome.chart result) after)
+        questions.entry questions.exit }
+    ensures called { outcome.chart result
+        ≡ run_chart (outcome.task result) calls.old (is_some questions.entry) }
+    ensures made { AllMade (outcome.task result) (opened (outcome.task result) room)
+        calls.old calls.new }
+    ensures asked { Lent (AllAsked (outcome.task result) (outcome.chart result))
+        questions.entry questions.exit }
 {
     let chart = begin(setting, calls);
     let Some(questions) = questions else {
-        return Outcome { table: chart.table };
+        return Outcome { chart };
     };
     let chart = chart.settle();
     ask_all(&chart, questions);
-    Outcome { table: chart.table }
+    Outcome {
+        chart: chart.working,
+    }
 }

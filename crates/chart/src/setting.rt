@@ -1,6 +1,8 @@
 // What a chart is opened over.
-// Clauses write out what it means (`task_of`): a model would have the task as its value, and a task holds functions, which
+// Clauses say what it means by a definition (`task_of`): a model would have the task as its value, and a task holds functions, which
 // are no values of a model.
+
+/// A grammar, a lattice and a weighing, which a chart is opened over.
 #[derive(Drop)]
 pub struct Setting<G, L, W> {
     pub grammar: G,

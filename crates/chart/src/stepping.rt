@@ -1,11 +1,10 @@
 // Steps of a table: an edge is finished, and what follows from it arrives.
-ghost use Rattle.std.specs.Prelude.{◌≡◌};
-ghost use Rattle.chart_model.specs.Plain.{place_brings, arrivals, step, step_answer, settled};
-ghost use Rattle.chart.specs.Bringing.{brought_by, NamesFinished, Arrived};
+ghost use Rattle.std.specs.Prelude.{◌≡◌, true};
+ghost use Rattle.chart_model.specs.Plain.{counted, step, step_answer, stopped, settled};
+ghost use Rattle.chart.specs.Bringing.{met_at, NamesFinished, FollowingArrived};
 ghost use Rattle.chart.specs.View.{room, Named};
 ghost use Rattle.chart.specs.Charts.{task_of, held};
 ghost use Rattle.chart.specs.Refusals.{step_number, told};
-ghost use Rattle.chart.specs.Stepping.{count_unless_full};
 
 use crate::refusal::StepRefusal;
 use crate::setting::Setting;
@@ -17,7 +16,7 @@ use weighing::Weighing;
 
 // How many edges are finished; refused at a full chart.
 fn count_unless_full(table: &Table) -> Result<u16, StepRefusal>
-    ensures { result ≡ count_unless_full (held table.now) }
+    ensures { told step_number result ≡ counted (held table.now) }
 {
     if table.is_full() {
         return Err(StepRefusal::Full);
@@ -28,7 +27,8 @@ fn count_unless_full(table: &Table) -> Result<u16, StepRefusal>
 impl<G: Grammar, L: Lattice, W: Weighing> Setting<G, L, W> {
     // What the edge at a place brings with the one that has just been finished, if it is finished too.
     fn meet_at(&self, table: &Table, at: usize, finished: Standing) -> Option<Arrival>
-        ensures brings { result ≡ brought_by (place_brings (G.rules self.now.grammar) (W.weights self.now.weighing) finished) (held table.now).places at }
+        ensures brings { result ≡ met_at (task_of G.Grammar L.Lattice W.Weighing self.now)
+            finished (held table.now).places at }
         ensures named { Named (held table.now) finished.at → NamesFinished (held table.now) result }
     {
         let other = table.finished_at(at)?;
@@ -38,7 +38,8 @@ impl<G: Grammar, L: Lattice, W: Weighing> Setting<G, L, W> {
     // All that follows from the finished edge arrives: by the rules in order, and then by the places in order.
     fn spread(&self, table: &mut Table, finished: Standing)
         requires { Named (held table.old) finished.at }
-        ensures { Arrived (W.weights self.now.weighing) table.old (arrivals (task_of G.rules L.last L.words W.weights self.now) finished (held table.old).places) table.new }
+        ensures { FollowingArrived (task_of G.Grammar L.Lattice W.Weighing self.now) finished
+            table.old table.new }
     {
         // The number of a rule fits 8 bits, so its cast is plainer than a test that cannot fail.
         self.bring_each(
@@ -52,8 +53,10 @@ impl<G: Grammar, L: Lattice, W: Weighing> Setting<G, L, W> {
 
     // Finishes the lightest open edge, and tells how many edges are finished then.
     pub(crate) fn advance(&self, table: &mut Table) -> Result<u16, StepRefusal>
-        ensures view { held table.new ≡ step (task_of G.rules L.last L.words W.weights self.now) room (held table.old) }
-        ensures answer { told step_number result ≡ step_answer (task_of G.rules L.last L.words W.weights self.now) room (held table.old) }
+        ensures view { held table.new
+            ≡ step (task_of G.Grammar L.Lattice W.Weighing self.now) room (held table.old) }
+        ensures answer { told step_number result
+            ≡ step_answer (task_of G.Grammar L.Lattice W.Weighing self.now) room (held table.old) }
     {
         count_unless_full(table)?;
         let finished = table
@@ -65,7 +68,10 @@ impl<G: Grammar, L: Lattice, W: Weighing> Setting<G, L, W> {
 
     // Takes steps until one is refused.
     pub(crate) fn advance_all(&self, table: &mut Table)
-        ensures { held table.new ≡ settled (task_of G.rules L.last L.words W.weights self.now) room (held table.old) }
+        ensures settled { held table.new
+            ≡ settled (task_of G.Grammar L.Lattice W.Weighing self.now) room (held table.old) }
+        ensures stopped { stopped (task_of G.Grammar L.Lattice W.Weighing self.now) (held table.new)
+            ≡ true }
     {
         while self.advance(table).is_ok() {}
     }

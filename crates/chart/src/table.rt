@@ -1,10 +1,10 @@
 // Places whose origins name only edges that were finished before.
-ghost use Rattle.std.specs.Prelude.{◌≡◌, suc, ◌≤◌, true, length, IfSome, Some};
+ghost use Rattle.std.specs.Prelude.{◌≡◌, ◌≤◌, true, length, IfSome, Some};
 ghost use Rattle.std.specs.List.{slice_get};
-ghost use Rattle.chart_model.specs.Plain.{blank, done, arrive as arrive_plain, carried as carried_plain};
-ghost use Rattle.chart_model.specs.Standings.{lightest_standing};
-ghost use Rattle.chart_model.specs.Origins.{orderly, names_earlier};
-ghost use Rattle.chart.specs.View.{room, view, standing_at, standing_of, finishing_next, Named};
+ghost use Rattle.chart_model.specs.Plain.{blank, done, carried as carried_plain};
+ghost use Rattle.chart_model.specs.Origins.{orderly};
+ghost use Rattle.chart.specs.View.{room, view, standing_at, standing_of};
+ghost use Rattle.chart.specs.View.{lightest_in, arrived, finishing_next, Named, NamesEarlier};
 
 use crate::places::Places;
 use chart_model::edge::Edge;
@@ -17,15 +17,18 @@ use weighing::Weighing;
 #[derive(Drop)]
 pub(crate) struct Table {
     places: Places,
-    ghost room: { length (view places).places ≤ room },
+    ghost taken: { places.full ≡ true → room ≤ length (view places).places },
+    ghost room: { places.taken ≤ room },
     ghost counted: { done (view places).places ≡ places.finished },
     ghost orderly: { orderly (view places) ≡ true },
 }
 
 impl Table {
+    ghost use Rattle.chart.specs.Charts.{held};
+
     // A table without edges.
     pub(crate) fn new() -> Self
-        ensures { view result.places ≡ blank }
+        ensures { held result ≡ blank }
     {
         let places = Places::none();
         Table { places }
@@ -33,29 +36,29 @@ impl Table {
 
     // Whether a new edge has found no place.
     pub(crate) fn is_full(&self) -> bool
-        ensures { result ≡ (view self.now.places).full }
+        ensures { result ≡ (held self.now).full }
     {
         self.places.full
     }
 
     // How many edges are finished.
     pub(crate) fn count(&self) -> u16
-        ensures { result ≡ (view self.now.places).finished }
+        ensures { result ≡ (held self.now).finished }
     {
         self.places.finished
     }
 
     // How many places are taken.
     pub(crate) fn len(&self) -> usize
-        ensures { result ≡ length (view self.now.places).places }
+        ensures { result ≡ length (held self.now).places }
     {
-        self.places.slots.len()
+        self.places.taken_places().len()
     }
 
     // The finished edge at a place.
     pub(crate) fn finished_at(&self, at: usize) -> Option<Standing>
-        ensures stands { result ≡ standing_at (view self.now.places).places at }
-        ensures earlier { IfSome result (λ s. Named (view self.now.places) s.at) }
+        ensures stands { result ≡ standing_at (held self.now).places at }
+        ensures earlier { IfSome result (λ s. Named (held self.now) s.at) }
     {
         let place = self.places.at(at)?;
         place.finished?;
@@ -65,40 +68,40 @@ impl Table {
 
     // What stands at the place of a finished edge.
     pub(crate) fn place(&self, at: u16) -> Place
-        requires { Named (view self.now.places) at }
-        ensures { slice_get (view self.now.places).places at ≡ Some result }
+        requires { Named (held self.now) at }
+        ensures { slice_get (held self.now).places at ≡ Some result }
     {
         self.places.slots[usize::from(at)]
     }
 
     // An edge with its place, if it is finished.
     pub(crate) fn standing(&self, edge: Edge) -> Option<Standing>
-        ensures stands { result ≡ standing_of edge (view self.now.places).places }
-        ensures earlier { IfSome result (λ s. Named (view self.now.places) s.at) }
+        ensures stands { result ≡ standing_of edge (held self.now).places }
+        ensures earlier { IfSome result (λ s. Named (held self.now) s.at) }
     {
         self.finished_at(self.places.find(edge)?)
     }
 
     // The weight of a finished edge.
     pub(crate) fn carried(&self, edge: Edge) -> Option<u64>
-        ensures { result ≡ carried_plain edge (view self.now.places).places }
+        ensures { result ≡ carried_plain edge (held self.now).places }
     {
         Some(self.standing(edge)?.weight)
     }
 
     // Brings a weight and an origin to an edge.
     pub(crate) fn arrive<W: Weighing>(&mut self, weighing: &W, arrival: Arrival)
-        requires { names_earlier (view self.old.places).places (suc self.old.places.finished) arrival.origin ≡ true }
-        ensures { view self.new.places ≡ arrive_plain room (W.weights weighing.now).lighter (view self.old.places) arrival }
+        requires { NamesEarlier (held self.old) arrival }
+        ensures { held self.new ≡ arrived (W.weights weighing.now) (held self.old) arrival }
     {
         self.places.arrive(weighing, arrival);
     }
 
     // Finishes the lightest open edge, at the lowest place among equals.
     pub(crate) fn finish_lightest<W: Weighing>(&mut self, weighing: &W) -> Option<Standing>
-        ensures lightest { result ≡ lightest_standing (W.weights weighing.now).lighter (view self.old.places).places }
-        ensures view { view self.new.places ≡ finishing_next (view self.old.places) result }
-        ensures earlier { IfSome result (λ s. Named (view self.new.places) s.at) }
+        ensures lightest { result ≡ lightest_in (W.weights weighing.now) (held self.old) }
+        ensures view { held self.new ≡ finishing_next (held self.old) result }
+        ensures earlier { IfSome result (λ s. Named (held self.new) s.at) }
     {
         let lightest = self.places.lightest(weighing)?;
         self.places.finish(usize::from(lightest.at));

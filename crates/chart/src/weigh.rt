@@ -1,26 +1,26 @@
 // From opening to an answer in one call.
 ghost use Rattle.std.specs.Prelude.{◌≡◌};
-ghost use Rattle.chart_model.specs.Plain.{opened, settled, settled_answer};
 ghost use Rattle.chart.specs.Charts.{task_of};
 ghost use Rattle.chart.specs.Refusals.{settled_number, told};
-ghost use Rattle.chart.specs.Saying.{SettledSays};
-ghost use Rattle.chart.specs.View.{room};
+ghost use Rattle.chart.specs.Saying.{weigh_answer, WeighedSays};
 
-use crate::phrase::Phrase;
 use crate::refusal::SettledRefusal;
 use crate::setting::Setting;
 use crate::working::WorkingChart;
+use chart_model::phrase::Phrase;
 use grammar::Grammar;
 use lattice::Lattice;
 use weighing::Weighing;
 
-// The weight of the lightest derivation of a symbol over a stretch.
+/// The weight of the lightest derivation of a phrase. Refused as a question to a settled chart is, with 7, 10 or 9.
 pub fn weigh<G: Grammar + Drop, L: Lattice + Drop, W: Weighing + Drop>(
     setting: Setting<G, L, W>,
     phrase: Phrase,
 ) -> Result<u64, SettledRefusal>
-    ensures answer { told settled_number result ≡ settled_answer (task_of G.rules L.last L.words W.weights setting) (settled (task_of G.rules L.last L.words W.weights setting) room (opened (task_of G.rules L.last L.words W.weights setting) room)) phrase.symbol phrase.from phrase.to }
-    ensures says { SettledSays (task_of G.rules L.last L.words W.weights setting) (settled (task_of G.rules L.last L.words W.weights setting) room (opened (task_of G.rules L.last L.words W.weights setting) room)) phrase.symbol phrase.from phrase.to result }
+    ensures answer { told settled_number result
+        ≡ weigh_answer (task_of G.Grammar L.Lattice W.Weighing setting) phrase }
+    ensures says { WeighedSays (task_of G.Grammar L.Lattice W.Weighing setting) phrase
+        (told settled_number result) }
 {
     let chart = WorkingChart::open(setting).settle();
     chart.question(phrase)

@@ -1,35 +1,42 @@
 // A chart that still takes steps.
-ghost use Rattle.std.specs.Prelude.{◌≡◌};
-ghost use Rattle.chart_model.specs.Plain.{opened, step as step_plain, step_answer, settled, working_answer};
-ghost use Rattle.chart_model.specs.Stands.{Stands, Settled};
+ghost use Rattle.std.specs.Prelude.{◌≡◌, true, Err};
+ghost use Rattle.chart_model.specs.Plain.{opened, step as plain_step, step_answer, settled};
+ghost use Rattle.chart_model.specs.Plain.{stopped, stop_number, working_answer};
+ghost use Rattle.chart_model.specs.Stands.{Reached, Fits, Stands, Settled};
+ghost use Rattle.chart_model.specs.Saying.{WorkingSays};
 ghost use Rattle.chart.specs.View.{room};
 ghost use Rattle.chart.specs.Charts.{task_of, held};
 ghost use Rattle.chart.specs.Refusals.{step_number, question_number, told};
-ghost use Rattle.chart.specs.Saying.{FromOpening, WorkingSays};
 
-use crate::phrase::Phrase;
 use crate::refusal::{QuestionRefusal, StepRefusal};
 use crate::setting::Setting;
 use crate::settled::SettledChart;
 use crate::table::Table;
+use chart_model::phrase::Phrase;
 use grammar::Grammar;
 use lattice::Lattice;
 use weighing::Weighing;
 
-// Comes from opening and some number of steps.
+/// A chart over a grammar, a lattice and a weighing that still takes steps. Opening and steps lead to it.
 #[derive(Drop)]
 pub struct WorkingChart<G: Grammar, L: Lattice, W: Weighing> {
     pub(crate) setting: Setting<G, L, W>,
     pub(crate) table: Table,
-    pub ghost from_opening: { ∥ FromOpening (task_of G.rules L.last L.words W.weights setting) (held table) ∥₁ },
+    pub ghost reached: { ∥ Reached (task_of G.Grammar L.Lattice W.Weighing setting)
+        (held table) ∥₁ },
+    // So the table's type has it, which is not seen from outside.
+    pub ghost fits: { Fits room (held table) },
 }
 
 impl<G: Grammar, L: Lattice, W: Weighing> WorkingChart<G, L, W> {
-    // Opens a chart, which is never refused: the words arrive, and then, node by node, the rules without right symbols.
+    ghost use Rattle.chart.specs.Working.{opened_over, task, chart};
+    ghost use Rattle.chart.specs.Settled as final;
+
+    /// Opens a chart, which is never refused: the words arrive, and then, node by node, the rules without right symbols.
     pub fn open(setting: Setting<G, L, W>) -> Self
-        ensures setting { result.setting ≡ setting }
-        ensures opened { held result.table ≡ opened (task_of G.rules L.last L.words W.weights setting) room }
-        ensures stands { Stands (task_of G.rules L.last L.words W.weights setting) (held result.table) }
+        ensures setting { opened_over result ≡ setting }
+        ensures opened { chart result ≡ opened (task result) room }
+        ensures stands { Stands (task result) (chart result) }
     {
         let mut table = Table::new();
         setting.word_arrivals(&mut table);
@@ -37,36 +44,51 @@ impl<G: Grammar, L: Lattice, W: Weighing> WorkingChart<G, L, W> {
         WorkingChart { setting, table }
     }
 
-    // Finishes the lightest open edge, and answers how many edges are finished.
+    /// Finishes the lightest open edge, and answers how many edges are finished. Refused with 10 by a full chart and where the step
+    /// makes it full, its edge finished; with 11 where nothing is open.
     pub fn step(&mut self) -> Result<u16, StepRefusal>
-        ensures stepped { held self.new.table ≡ step_plain (task_of G.rules L.last L.words W.weights self.old.setting) room (held self.old.table) }
-        ensures answer { told step_number result ≡ step_answer (task_of G.rules L.last L.words W.weights self.old.setting) room (held self.old.table) }
-        ensures stands { Stands (task_of G.rules L.last L.words W.weights self.old.setting) (held self.new.table) }
-        ensures setting { self.new.setting ≡ self.old.setting }
+        ensures stepped { chart self.new ≡ plain_step (task self.old) room (chart self.old) }
+        ensures answer { told step_number result
+            ≡ step_answer (task self.old) room (chart self.old) }
+        ensures stands { Stands (task self.new) (chart self.new) }
+        ensures setting { opened_over self.new ≡ opened_over self.old }
     {
         self.setting.advance(&mut self.table)
     }
 
-    // The weight of a symbol over a stretch, if it is finished.
-    // A settled chart asks likewise: one function for both would take both refusals as arguments.
+    /// The weight of a phrase, if its edge is finished. Refused with 7 where the lattice has no such stretch, and with 8 where the edge is
+    /// not finished.
     pub fn question(&self, phrase: Phrase) -> Result<u64, QuestionRefusal>
-        ensures answer { told question_number result ≡ working_answer (task_of G.rules L.last L.words W.weights self.now.setting) (held self.now.table) phrase.symbol phrase.from phrase.to }
-        ensures says { WorkingSays (task_of G.rules L.last L.words W.weights self.now.setting) (held self.now.table) phrase.symbol phrase.from phrase.to result }
+        ensures answer { told question_number result
+            ≡ working_answer (task self.now) (chart self.now) phrase }
+        ensures says { WorkingSays (task self.now) (chart self.now) phrase
+            (told question_number result) }
     {
+        // A settled chart asks likewise: one function for both would take both refusals as arguments.
         let last = self.setting.lattice.last_node();
         let edge = phrase.edge_within(last).ok_or(QuestionRefusal::NoStretch)?;
         self.table.carried(edge).ok_or(QuestionRefusal::NotFinished)
     }
 
     // Takes steps until one is refused.
-    pub fn settle(self) -> SettledChart<G, L, W>
-        ensures settled { held result.table ≡ settled (task_of G.rules L.last L.words W.weights self.setting) room (held self.table) }
-        ensures stands { Stands (task_of G.rules L.last L.words W.weights self.setting) (held result.table) }
-        ensures rests { Settled (task_of G.rules L.last L.words W.weights self.setting) room (held result.table) }
-        ensures setting { result.setting ≡ self.setting }
+    fn exhaust(&mut self)
+        ensures settled { chart self.new ≡ settled (task self.old) room (chart self.old) }
+        ensures stopped { stopped (task self.new) (chart self.new) ≡ true }
+        ensures setting { opened_over self.new ≡ opened_over self.old }
     {
-        let WorkingChart { setting, mut table } = self;
-        setting.advance_all(&mut table);
-        SettledChart { setting, table }
+        self.setting.advance_all(&mut self.table);
+    }
+
+    /// Takes steps until one is refused. What it leaves would refuse a further one, by the same number as a step does.
+    pub fn settle(mut self) -> SettledChart<G, L, W>
+        ensures settled { final.chart result ≡ settled (task self) room (chart self) }
+        ensures refuses { step_answer (task self) room (final.chart result)
+            ≡ Err (stop_number (final.chart result)) }
+        ensures stands { Stands (task self) (final.chart result) }
+        ensures rests { Settled (task self) room (final.chart result) }
+        ensures setting { final.opened_over result ≡ opened_over self }
+    {
+        self.exhaust();
+        SettledChart { working: self }
     }
 }

@@ -1,8 +1,9 @@
 -- What a list of arrivals leaves of a chart, whether or not it becomes full on the way. Assumes nothing.
-use Rattle.std.proofs.Common.{◌≡◌, ℕ, suc, ◌<◌, ◌≤◌, Bool, true, false, ◌||◌, ltb, ◌⊎◌, List, [], ◌∷◌, length, sym, refl, ◌∙◌, subst, inl, inr, arith}
+use Rattle.std.proofs.Common.{◌≡◌, ℕ, suc, ◌<◌, ◌≤◌, Bool, true, false, ◌||◌, ltb, ◌⊎◌, List, [], ◌∷◌, length, sym, refl, ap, ◌∙◌, subst, inl, inr, le_refl, le_trans, arith}
 use Rattle.weighing.specs.Laws.{Weights, Lawful, Code}
 use Rattle.chart_model.specs.Task.{Task}
 use Rattle.chart_model.specs.Derivation.{Derives}
+use Rattle.chart_model.specs.Stands.{Fits}
 use Rattle.chart_model.specs.Plain.{Chart, is_open, placed, holds, arrive, arrive_all, done}
 use Rattle.chart_model.specs.declared.place.Arrival.{Arrival}
 use Rattle.chart_model.specs.declared.edge.Edge.{Edge}
@@ -10,7 +11,7 @@ use Rattle.chart_model.specs.declared.place.Place.{Place}
 use Rattle.std.proofs.lemmas.Bool.{true≢false, or_cases, or_parts, ltb-true, ltb-false}
 use Rattle.chart_model.proofs.AtMost.{AtMost}
 use Rattle.chart_model.proofs.Members.{In}
-use Rattle.chart_model.proofs.Placing.{Reaches, Beyond, Brought, apart, placed_from, placed_keeps, placed_reaches, placed_apart, placed_done, placed_length, placed_held}
+use Rattle.chart_model.proofs.Placing.{Reaches, Beyond, Brought, apart, placed_from, placed_keeps, placed_reaches, placed_apart, placed_done, placed_length, placed_grows, placed_held}
 
 -- the edge is reached, or the chart is full and no finished edge is heavier
 abbrev pub Answered : Weights → Chart → Edge → ℕ → Type 0
@@ -19,10 +20,6 @@ Answered ws c e v = Reaches ws c.places e v ⊎ ((c.full ≡ true) × Beyond ws 
 -- all weights in the chart are codes
 abbrev pub Coded : List Place → Type 0
 Coded ps = (p : Place) → In p ps → Code p.weight
-
--- the chart keeps to its capacity, and is full only at it
-abbrev pub Fits : ℕ → Chart → Type 0
-Fits capacity c = (length c.places ≤ capacity) × (c.full ≡ true → capacity ≤ length c.places)
 
 -- a full chart has refused an edge that has a derivation
 abbrev pub Refused : Task → Chart → Type 0
@@ -114,22 +111,34 @@ module _ (capacity : ℕ) (lighter : ℕ → ℕ → Bool) where
       arrive_all_keep (λ d. d.finished ≡ c.finished) as'
       (λ a _ d h. arrive_cases d a (λ x. x.finished ≡ c.finished) (λ _. h) (λ _ _. h) (λ _ _ _. h)) c refl
 
+  -- places are never fewer
+  pub arrive_all_grows : (as' : List Arrival) (c : Chart) → length c.places ≤ length (arrive_all capacity lighter c as').places
+  arrive_all_grows as' c =
+      arrive_all_keep (λ d. length c.places ≤ length d.places) as'
+      (λ a _ d h. arrive_cases d a (λ x. length c.places ≤ length x.places) (λ _. h) (λ _ _. le_trans h (placed_grows lighter a d.places)) (λ _ _ _. h))
+      c (le_refl (length c.places))
+
+  -- and a full chart stays as it is
+  pub arrive_all_full : (as' : List Arrival) (c : Chart) → c.full ≡ true → arrive_all capacity lighter c as' ≡ c
+  arrive_all_full as' c full =
+      arrive_all_keep (λ d. d ≡ c) as'
+      (λ a _ d h. arrive_cases d a (λ x. x ≡ c) (λ _. h)
+      (λ open_yet _. absurd (true≢false (sym full ∙ ap (λ (x : Chart). x.full) (sym h) ∙ open_yet)))
+      (λ open_yet _ _. absurd (true≢false (sym full ∙ ap (λ (x : Chart). x.full) (sym h) ∙ open_yet))))
+      c refl
+
   placed_fits : (c : Chart) (a : Arrival) → (holds a.edge c.places ≡ true) ⊎ (length c.places < capacity) →
       length c.places ≤ capacity → length (placed lighter a c.places) ≤ capacity
   placed_fits c a (inl held) h = subst (λ m. m ≤ capacity) (sym (placed_held lighter a c.places held)) h
   placed_fits c a (inr below) h =
       let one_more : length (placed lighter a c.places) ≤ suc (length c.places) = placed_length lighter a c.places in omega arith
 
-  pub arrive_within : (c : Chart) (a : Arrival) → length c.places ≤ capacity → length (arrive capacity lighter c a).places ≤ capacity
-  arrive_within c a h =
-      arrive_cases c a (λ d. length d.places ≤ capacity) (λ _. h) (λ _ room. placed_fits c a room h) (λ _ _ _. h)
-
   pub arrive_all_fits : (as' : List Arrival) (c : Chart) → Fits capacity c → Fits capacity (arrive_all capacity lighter c as')
   arrive_all_fits as' =
       arrive_all_keep (Fits capacity) as'
       (λ a _ c h. arrive_cases c a (Fits capacity) (λ _. h)
-      (λ _ room. (placed_fits c a room h.0, λ f. absurd (true≢false (sym f))))
-      (λ _ _ over. (h.0, λ _. over)))
+      (λ _ room. record { within = placed_fits c a room h.within; taken = λ f. absurd (true≢false (sym f)) })
+      (λ _ _ over. record { within = h.within; taken = λ _. over }))
 
   pub arrive_all_refused : (t : Task) (as' : List Arrival) → ((a : Arrival) → In a as' → Derives t a.edge) →
       (c : Chart) → Refused t c → Refused t (arrive_all capacity lighter c as')

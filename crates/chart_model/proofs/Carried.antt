@@ -1,8 +1,8 @@
 -- What the places answer to a question. Assumes nothing.
-use Rattle.std.proofs.Common.{◌≡◌, ℕ, suc, ◌+◌, Bool, true, false, List, [], ◌∷◌, Some, None, Option, sym, refl, ap, ◌∙◌, inl, inr, arith}
-use Rattle.std.specs.List.{slice_get}
-use Rattle.chart_model.specs.Plain.{is_open, same_edge, holds, carried}
-use Rattle.chart_model.specs.Standings.{place_from}
+use Rattle.std.proofs.Common.{◌≡◌, ℕ, suc, ◌+◌, Bool, true, false, cond, List, [], ◌∷◌, Some, None, Option, sym, refl, ap, ◌∙◌, inl, inr, arith}
+use Rattle.std.specs.List.{slice_get, position_from}
+use Rattle.std.proofs.lemmas.Iterator.Adapters.{position_from-zero}
+use Rattle.chart_model.specs.Plain.{is_open, same_edge, holds, place_of, carried}
 use Rattle.chart_model.specs.declared.edge.Edge.{Edge}
 use Rattle.chart_model.specs.declared.place.Place.{Place}
 use Rattle.std.proofs.lemmas.Bool.{true≢false, or_left, or_right}
@@ -50,22 +50,26 @@ carried_of e (q ∷ ps) distinct p (inr i) same shut = go (same_edge q.edge e) r
     go true h later = absurd (true≢false (sym (in_holds q.edge ps p i (same ∙ sym (same_edge_true q.edge e h))) ∙ distinct.0))
     go false h later = later
 
--- a finished edge, and its place, where the first place is number m
-pub record StandsAt (m : ℕ) (e : Edge) (ps : List Place) (w : ℕ) : Type 0 where
+-- a finished edge, and its place
+pub record StandsAt (e : Edge) (ps : List Place) (w : ℕ) (first : ℕ → Type 0) : Type 0 where
   pub number : ℕ
   pub place : Place
   pub there : slice_get ps number ≡ Some place
-  pub first : place_from m e ps ≡ Some (m + number)
+  pub found : first number
   pub edge : place.edge ≡ e
   pub shut : is_open place.finished ≡ false
   pub weight : place.weight ≡ w
 
-pub carried_stands : (m : ℕ) (e : Edge) (ps : List Place) (w : ℕ) → carried e ps ≡ Some w → StandsAt m e ps w
-carried_stands m e [] w h = absurd (none_some h)
-carried_stands m e (q ∷ ps) w h = go (same_edge q.edge e) refl (carried_stands (suc m) e ps w) h
+-- where the first place is number m
+abbrev First : ℕ → Edge → List Place → ℕ → Type 0
+First m e ps n = position_from (λ (p : Place). same_edge p.edge e) m ps ≡ Some (m + n)
+
+stands_from : (m : ℕ) (e : Edge) (ps : List Place) (w : ℕ) → carried e ps ≡ Some w → StandsAt e ps w (First m e ps)
+stands_from m e [] w h = absurd (none_some h)
+stands_from m e (q ∷ ps) w h = go (same_edge q.edge e) refl (stands_from (m + 1) e ps w) h
   where
     here : same_edge q.edge e ≡ true → (b : Bool) → is_open q.finished ≡ b →
-        elim b as (λ _. Option ℕ) [ true ↦ None | false ↦ Some q.weight ] ≡ Some w → StandsAt m e (q ∷ ps) w
+        elim b as (λ _. Option ℕ) [ true ↦ None | false ↦ Some q.weight ] ≡ Some w → StandsAt e (q ∷ ps) w (First m e (q ∷ ps))
     here same true s h' = absurd (none_some h')
     here same false s h' =
         let at : m ≡ m + 0 = omega arith in
@@ -73,27 +77,41 @@ carried_stands m e (q ∷ ps) w h = go (same_edge q.edge e) refl (carried_stands
           number = 0;
           place = q;
           there = refl;
-          first = ap (λ b. elim b as (λ _. Option ℕ) [ true ↦ Some m | false ↦ place_from (suc m) e ps ]) same ∙ ap Some at;
+          found = ap (λ b. cond b (Some m) (position_from (λ (p : Place). same_edge p.edge e) (m + 1) ps)) same ∙ ap Some at;
           edge = same_edge_true q.edge e same;
           shut = s;
           weight = some_same h';
         }
 
-    later : same_edge q.edge e ≡ false → StandsAt (suc m) e ps w → StandsAt m e (q ∷ ps) w
+    later : same_edge q.edge e ≡ false → StandsAt e ps w (First (m + 1) e ps) → StandsAt e (q ∷ ps) w (First m e (q ∷ ps))
     later other f =
-        let at : suc m + f.number ≡ m + suc f.number = omega arith in
+        let at : m + 1 + f.number ≡ m + suc f.number = omega arith in
         record {
           number = suc f.number;
           place = f.place;
           there = f.there;
-          first = ap (λ b. elim b as (λ _. Option ℕ) [ true ↦ Some m | false ↦ place_from (suc m) e ps ]) other ∙ f.first ∙ ap Some at;
+          found = ap (λ b. cond b (Some m) (position_from (λ (p : Place). same_edge p.edge e) (m + 1) ps)) other ∙ f.found ∙ ap Some at;
           edge = f.edge;
           shut = f.shut;
           weight = f.weight;
         }
 
-    go : (b : Bool) → same_edge q.edge e ≡ b → (carried e ps ≡ Some w → StandsAt (suc m) e ps w) →
+    go : (b : Bool) → same_edge q.edge e ≡ b → (carried e ps ≡ Some w → StandsAt e ps w (First (m + 1) e ps)) →
         elim b as (λ _. Option ℕ) [ true ↦ elim (is_open q.finished) [ true ↦ None | false ↦ Some q.weight ] | false ↦ carried e ps ] ≡ Some w →
-        StandsAt m e (q ∷ ps) w
+        StandsAt e (q ∷ ps) w (First m e (q ∷ ps))
     go true same after h' = here same (is_open q.finished) refl h'
     go false other after h' = later other (after h')
+
+pub carried_stands : (e : Edge) (ps : List Place) (w : ℕ) → carried e ps ≡ Some w → StandsAt e ps w (λ n. place_of e ps ≡ Some n)
+carried_stands e ps w h =
+    let f = stands_from 0 e ps w h in
+    let at : 0 + f.number ≡ f.number = omega arith in
+    record {
+      number = f.number;
+      place = f.place;
+      there = f.there;
+      found = position_from-zero (λ (p : Place). same_edge p.edge e) ps ∙ f.found ∙ ap Some at;
+      edge = f.edge;
+      shut = f.shut;
+      weight = f.weight;
+    }

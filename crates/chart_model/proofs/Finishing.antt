@@ -8,6 +8,7 @@ use Rattle.chart_model.specs.declared.place.Place.{Place}
 use Rattle.chart_model.proofs.AtMost.{AtMost}
 use Rattle.chart_model.proofs.Members.{In, none_some, some_same}
 use Rattle.chart_model.proofs.Placing.{Reaches, apart}
+use Rattle.chart_model.proofs.Done.{done_by, done_cons}
 
 pub finish_from : (number n : ℕ) (ps : List Place) (p : Place) → slice_get ps n ≡ Some p → (q : Place) → In q (finish number n ps) → In q ps ⊎ (ended number p ≡ q)
 finish_from number n [] p e q i = absurd i
@@ -50,10 +51,11 @@ finish_length number (suc n) (x ∷ ps) = ap suc (finish_length number n ps)
 pub finish_done : (number n : ℕ) (ps : List Place) (p : Place) → slice_get ps n ≡ Some p → is_open p.finished ≡ true → done (finish number n ps) ≡ suc (done ps)
 finish_done number n [] p e opened = absurd (none_some e)
 finish_done number zero (x ∷ ps) p e opened =
-    ap (λ b. suc (elim b as (λ _. ℕ) [ true ↦ done ps | false ↦ suc (done ps) ]))
-    (sym (ap (λ (q : Place). is_open q.finished) (some_same e) ∙ opened))
-finish_done number (suc n) (x ∷ ps) p e opened = ap (λ m. elim (is_open x.finished) as (λ _. ℕ) [ true ↦ m | false ↦ suc m ]) (finish_done number n ps p e opened) ∙ go (is_open x.finished)
+    done_cons (ended number x) ps
+    ∙ sym (ap suc (done_cons x ps ∙ ap (λ b. done_by b (done ps)) (ap (λ (q : Place). is_open q.finished) (some_same e) ∙ opened)))
+finish_done number (suc n) (x ∷ ps) p e opened =
+    done_cons x (finish number n ps) ∙ ap (done_by (is_open x.finished)) (finish_done number n ps p e opened) ∙ go (is_open x.finished) ∙ sym (ap suc (done_cons x ps))
   where
-    go : (b : Bool) → elim b as (λ _. ℕ) [ true ↦ suc (done ps) | false ↦ suc (suc (done ps)) ] ≡ suc (elim b as (λ _. ℕ) [ true ↦ done ps | false ↦ suc (done ps) ])
+    go : (b : Bool) → done_by b (suc (done ps)) ≡ suc (done_by b (done ps))
     go true = refl
     go false = refl

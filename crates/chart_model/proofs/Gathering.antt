@@ -2,7 +2,7 @@
 -- Assumes nothing.
 use Rattle.std.proofs.Common.{◌≡◌, ℕ, suc, ◌⊎◌, List, [], ◌∷◌, ◌++◌, Some, None, Option, sym, refl, ap, ◌∙◌, subst, inl, inr}
 use Rattle.std.specs.Option.{option_to_list}
-use Rattle.chart_model.specs.Plain.{gathered}
+use Rattle.chart_model.specs.Plain.{arriving, gathered}
 use Rattle.chart_model.specs.declared.edge.Edge.{Edge}
 use Rattle.chart_model.specs.declared.origin.Origin.{Origin}
 use Rattle.chart_model.specs.declared.place.Arrival.{Arrival}
@@ -24,7 +24,7 @@ pub record SameArrival (e : Edge) (v : ℕ) (o : Origin) (a : Arrival) : Type 0 
   pub weight : a.weight ≡ v
   pub origin : a.origin ≡ o
 
-pub some_arrival : (e : Edge) (v : ℕ) (o : Origin) (a : Arrival) → Some (record { edge = e; weight = v; origin = o }) ≡ Some a → SameArrival e v o a
+pub some_arrival : (e : Edge) (v : ℕ) (o : Origin) (a : Arrival) → Some (arriving e v o) ≡ Some a → SameArrival e v o a
 some_arrival e v o a h =
     let same = some_same h in
     record {

@@ -4,7 +4,7 @@ use Rattle.std.proofs.Common.{◌≡◌, ℕ, zero, suc, Bool, true, false, ◌�
 use Rattle.std.specs.List.{slice_get}
 use Rattle.std.proofs.lemmas.Bool.{true≢false, and_from}
 use Rattle.chart_model.specs.Task.{Task, Sound}
-use Rattle.chart_model.specs.Plain.{Chart, is_open, ended, finish, finishing, arrivals, finished_at, improved, placed, arrive, arrive_all, blank, first_arrivals, opened}
+use Rattle.chart_model.specs.Plain.{Chart, is_open, seen, ended, finish, finishing, arrivals, completed, improved, placed, arrive, arrive_all, blank, first_arrivals, opened}
 use Rattle.chart_model.specs.Stands.{Reached, by_opening, by_step}
 use Rattle.chart_model.specs.Origins.{AtPlace, Agrees, earlier, names_earlier, orderly, Grounded}
 use Rattle.chart_model.specs.declared.edge.Edge.{Edge}
@@ -121,10 +121,10 @@ module _ (t : Task) (capacity : ℕ) (c : Chart) (grounded : Grounded t c) (n : 
 
   -- the edge just finished, and what follows from it
   abbrev now : Standing
-  now = record { at = n; edge = p.edge; weight = p.weight }
+  now = seen n p
 
   abbrev brought : List Arrival
-  brought = arrivals t (record { at = n; edge = p.edge; weight = p.weight }) (finish (suc c.finished) n c.places)
+  brought = arrivals t (seen n p) (finish (suc c.finished) n c.places)
 
   abbrev finishing_places : List Place
   finishing_places = finish (suc c.finished) n c.places
@@ -155,9 +155,9 @@ module _ (t : Task) (capacity : ℕ) (c : Chart) (grounded : Grounded t c) (n : 
   step_agrees q (inr (a, i, left)) =
       brought_agrees t finishing_places a q left (arises_agrees t now finishing_places now_there a (arrivals_from t now finishing_places a i))
 
-  grounded_stepped : Grounded t (finished_at t capacity c n p)
+  grounded_stepped : Grounded t (completed t capacity c (seen n p))
   grounded_stepped =
-      let after = finished_at t capacity c n p in
+      let after = completed t capacity c (seen n p) in
       record {
         agrees = λ k q e.
             agrees_stays t finishing_places after.places (arrive_all_stays capacity t.weights.lighter brought (finishing c n)) q.edge q.weight q.origin

@@ -1,24 +1,25 @@
 -- The law of the lightest: what the invariant says of the finished edges, and of a stopped chart. Assumes nothing.
-use Rattle.std.proofs.Common.{◌≡◌, ℕ, zero, suc, ◌≤◌, Bool, true, false, ◌⊎◌, List, [], ◌∷◌, length, Some, None, sym, refl, ap, ◌∙◌, subst, subst₂, inl, inr, arith}
-use Rattle.std.specs.List.{slice_get}
+use Rattle.std.proofs.Common.{◌≡◌, ℕ, ◌≤◌, Bool, true, false, ◌⊎◌, List, [], ◌∷◌, length, map, Some, None, sym, refl, ◌∙◌, subst, subst₂, inl, inr, arith}
+use Rattle.std.specs.List.{slice_get, AllByRecursion, IsDistinct}
+use Rattle.std.proofs.lemmas.List.{length-map}
+use Rattle.std.proofs.lemmas.Map.Keys.{IsDistinct-cons}
 use Rattle.chart_model.specs.Task.{Task, Sound}
 use Rattle.chart_model.specs.Derivation.{Derives, weight_of}
-use Rattle.chart_model.specs.Plain.{Chart, opened, stopped, carried, holds, same_edge}
-use Rattle.chart_model.specs.Stands.{Stands, Weighs, NoneLighter, Settled, Over, AllApart, AllDerived, Reached, by_opening, after, LawOfTheLightest}
+use Rattle.chart_model.specs.Plain.{Chart, stopped, carried, holds, same_edge}
+use Rattle.chart_model.specs.Stands.{Stands, Weighs, NoneLighter, Settled, Over, Fits, LawOfTheLightest}
 use Rattle.chart_model.specs.declared.edge.Edge.{Edge}
 use Rattle.chart_model.specs.declared.place.Place.{Place}
 use Rattle.std.proofs.lemmas.Bool.{true≢false, or_parts}
-use Rattle.chart_model.proofs.Members.{In, none_some, some_same}
+use Rattle.chart_model.proofs.Members.{In, none_some, some_same, all_nth}
 use Rattle.chart_model.proofs.Edges.{same_edge_back}
 use Rattle.chart_model.proofs.Derivations.{lies_within}
 use Rattle.chart_model.proofs.Placing.{apart}
-use Rattle.chart_model.proofs.Arriving.{Fits}
-use Rattle.chart_model.proofs.Invariant.{Inv, inv_opened}
+use Rattle.chart_model.proofs.Invariant.{Inv}
 use Rattle.chart_model.proofs.Stepping.{inv_reached, reached_steps}
 use Rattle.chart_model.proofs.Claims.{Done, Late, Claim, claim_edge, late_beyond}
 use Rattle.chart_model.proofs.Carried.{in_holds, carried_from, carried_of}
 use Rattle.chart_model.proofs.Pigeonhole.{pigeonhole}
-use Rattle.chart_model.proofs.Stopping.{Shut, fits_opened, fits_steps, stopped_means, stops}
+use Rattle.chart_model.proofs.Stopping.{Shut, fits_opened, fits_step, stopped_means, stops}
 
 -- THE FINISHED EDGES
 
@@ -57,31 +58,25 @@ module _ (t : Task) (s : Sound t) (c : Chart) (inv : Inv t c) where
 -- A STOPPED CHART
 
 abbrev edges : List Place → List Edge
-edges [] = []
-edges (p ∷ ps) = p.edge ∷ edges ps
+edges ps = map (λ (p : Place). p.edge) ps
 
 edges_length : (ps : List Place) → length (edges ps) ≡ length ps
-edges_length [] = refl
-edges_length (p ∷ ps) = ap suc (edges_length ps)
+edges_length ps = length-map ps (λ (p : Place). p.edge)
 
-edges_other : (e : Edge) (ps : List Place) → holds e ps ≡ false → (f : Edge) (n : ℕ) → slice_get (edges ps) n ≡ Some f → same_edge e f ≡ false
-edges_other e [] h f n at = absurd (none_some at)
-edges_other e (p ∷ ps) h f zero at =
-    subst (λ g. same_edge e g ≡ false) (some_same at) (same_edge_back p.edge e (or_parts (same_edge p.edge e) (holds e ps) h).0)
-edges_other e (p ∷ ps) h f (suc n) at = edges_other e ps (or_parts (same_edge p.edge e) (holds e ps) h).1 f n at
+edges_other : (e : Edge) (ps : List Place) → holds e ps ≡ false → AllByRecursion (λ f. same_edge e f ≡ false) (edges ps)
+edges_other e [] h = tt
+edges_other e (p ∷ ps) h =
+    let both = or_parts (same_edge p.edge e) (holds e ps) h in
+    (same_edge_back p.edge e both.0, edges_other e ps both.1)
 
-edges_apart : (ps : List Place) → apart ps → AllApart (edges ps)
+edges_apart : (ps : List Place) → apart ps → IsDistinct same_edge (edges ps)
+unfolding IsDistinct
 edges_apart [] h = tt
 edges_apart (p ∷ ps) h = (edges_other p.edge ps h.0, edges_apart ps h.1)
 
-edges_derived : (t : Task) (ps : List Place) → ((p : Place) → In p ps → Derives t p.edge) → AllDerived t (edges ps)
+edges_derived : (t : Task) (ps : List Place) → ((p : Place) → In p ps → Derives t p.edge) → AllByRecursion (Derives t) (edges ps)
 edges_derived t [] all = tt
 edges_derived t (p ∷ ps) all = (all p (inl refl), edges_derived t ps (λ q i. all q (inr i)))
-
-derived_nth : (t : Task) (es : List Edge) → AllDerived t es → (f : Edge) (n : ℕ) → slice_get es n ≡ Some f → Derives t f
-derived_nth t [] all f n at = absurd (none_some at)
-derived_nth t (e ∷ es) all f zero at = subst (Derives t) (some_same at) all.0
-derived_nth t (e ∷ es) all f (suc n) at = derived_nth t es all.1 f n at
 
 -- a full chart has shown more edges to have derivations than it has places
 pub full_over : (t : Task) (c : Chart) → Inv t c → (capacity : ℕ) → capacity ≤ length c.places → c.full ≡ true → Over t capacity
@@ -89,7 +84,7 @@ full_over t c inv capacity at_capacity f =
     let (e, d, absent) = inv.refused f in
     let as_many : length (edges c.places) ≡ length c.places = edges_length c.places in (
       e ∷ edges c.places,
-      (edges_other e c.places absent, edges_apart c.places inv.distinct),
+      IsDistinct-cons same_edge e (edges c.places) (edges_other e c.places absent) (edges_apart c.places inv.distinct),
       (d, edges_derived t c.places (λ p i. (inv.sound p i).0)),
       omega arith,
     )
@@ -110,7 +105,7 @@ module _ (t : Task) (s : Sound t) (c : Chart) (inv : Inv t c) (quiet : (c.full �
     where
       held : c.full ≡ false → (f : Edge) (n : ℕ) → slice_get es n ≡ Some f → holds f c.places ≡ true
       held f e n at =
-          let w = every_finished f e (derived_nth t es derived e n at) in
+          let w = every_finished f e (all_nth (Derives t) es derived n e at) in
           let p = carried_from e c.places w.0 w.1 in
           in_holds e c.places p.0 p.1 p.2
 
@@ -124,27 +119,19 @@ pub settled_chart : (t : Task) → Sound t → (capacity : ℕ) (c : Chart) → 
 settled_chart t s capacity c inv fits h =
     let quiet = stopped_means t s c inv h in
     record {
-      full_only_over = λ f. full_over t c inv capacity (fits.1 f) f;
-      over_only_full = over_full t s c inv quiet capacity fits.0;
+      full_only_over = λ f. full_over t c inv capacity (fits.taken f) f;
+      over_only_full = over_full t s c inv quiet capacity fits.within;
       all_finished = every_finished t s c inv quiet;
     }
-
-module _ (t : Task) (s : Sound t) (capacity n : ℕ) where
-  after_reached : Reached t (after t capacity n)
-  after_reached = reached_steps t capacity n (opened t capacity) (by_opening capacity)
-
-  after_inv : Inv t (after t capacity n)
-  after_inv = inv_reached t s after_reached
-
-  after_fits : Fits capacity (after t capacity n)
-  after_fits = fits_steps t s capacity n (opened t capacity) (inv_opened t s capacity) (fits_opened t capacity)
 
 pub law_of_the_lightest : (t : Task) → Sound t → LawOfTheLightest t
 law_of_the_lightest t s =
     record {
       stands = λ c reached. stands t s c (inv_reached t s reached);
-      reached = after_reached t s;
-      is_settled = λ capacity n. settled_chart t s capacity (after t capacity n) (after_inv t s capacity n) (after_fits t s capacity n);
-      ends = λ capacity n. stops t s capacity (after t capacity n) (after_inv t s capacity n) (after_fits t s capacity n);
+      is_settled = λ capacity c rests. settled_chart t s capacity c (inv_reached t s rests.reached) rests.fits rests.stopped;
+      opening_fits = fits_opened t;
+      step_fits = λ capacity c reached. fits_step t s capacity c (inv_reached t s reached);
+      ends = λ capacity c reached. stops t s capacity c (inv_reached t s reached);
+      settling = λ capacity c. reached_steps t capacity capacity c;
       within = lies_within t s;
     }

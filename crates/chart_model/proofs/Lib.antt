@@ -2,11 +2,11 @@ pub mod AtMost
 pub mod Members
 pub mod Edges
 pub mod Derivations
+pub mod Done
 pub mod Placing
 pub mod Arriving
 pub mod Finishing
 pub mod Lightest
-pub mod Standings
 pub mod Conclusions
 pub mod Gathering
 pub mod OpeningArrivals
@@ -20,4 +20,7 @@ pub mod Stopping
 pub mod Law
 pub mod Numbering
 pub mod Grounding
+pub mod Rerunning
 pub mod Readings
+pub mod Lists
+pub mod Saying

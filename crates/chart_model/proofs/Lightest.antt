@@ -1,83 +1,140 @@
 -- The search for the lightest open edge finds one, unless none is open. Assumes nothing.
-use Rattle.std.proofs.Common.{◌≡◌, ℕ, suc, ◌≤◌, Bool, true, false, List, [], ◌∷◌, length, Some, None, Option, sym, refl, ◌∙◌, subst, inl, inr, arith}
-use Rattle.std.proofs.lemmas.Bool.{true≢false}
+use Rattle.std.proofs.Common.{◌≡◌, ℕ, suc, ◌+◌, ◌<◌, Bool, true, false, ◌⊎◌, List, [], ◌∷◌, length, fold, Some, None, Option, sym, refl, ap, ◌∙◌, subst, inl, inr, arith}
+use Rattle.std.specs.List.{slice_get, enumerate_from}
+use Rattle.std.proofs.lemmas.Bool.{true≢false, cases_order}
 use Rattle.weighing.specs.Laws.{Weights, Lawful, Code}
-use Rattle.chart_model.specs.Plain.{Candidate, is_open, lighter_of, lightest_from, done}
+use Rattle.chart_model.specs.Plain.{is_open, seen, lighter_of, lightest_with, lightest_open}
 use Rattle.chart_model.specs.declared.place.Place.{Place}
+use Rattle.chart_model.specs.declared.place.Standing.{Standing}
 use Rattle.chart_model.proofs.AtMost.{AtMost, at_most_refl, at_most_lighter, at_most_trans}
-use Rattle.chart_model.proofs.Members.{In, At, at_in}
+use Rattle.chart_model.proofs.Members.{In, none_some, some_same, nth_in, in_nth, nth_below}
 use Rattle.chart_model.proofs.Arriving.{Coded}
 
--- what a search over the places, counted from n, has to say
-abbrev pub Finds : Weights → ℕ → List Place → Option Candidate → Type 0
-Finds ws n ps None = (q : Place) → In q ps → is_open q.finished ≡ false
-Finds ws n ps (Some k) =
-    (p : Place) × At ps n k.place p × (is_open p.finished ≡ true) × (p.weight ≡ k.weight)
-    × ((q : Place) → In q ps → is_open q.finished ≡ true → AtMost ws k.weight q.weight)
+-- an open edge stands at the place that is told
+pub record StandsOpen (ps : List Place) (s : Standing) : Type 0 where
+  pub place : Place
+  pub there : slice_get ps s.at ≡ Some place
+  pub still_open : is_open place.finished ≡ true
+  pub same : seen s.at place ≡ s
 
-module _ (ws : Weights) (law : Lawful ws) where
-  pub lightest_finds : (n : ℕ) (ps : List Place) → Coded ps → Finds ws n ps (lightest_from ws.lighter n ps)
-  lightest_finds n [] coded = λ q i. absurd i
-  lightest_finds n (p ∷ ps) coded =
-      go (is_open p.finished) refl (lightest_from ws.lighter (suc n) ps) (lightest_finds (suc n) ps (λ q i. coded q (inr i)))
+-- the places from number n on are those of a list
+abbrev From : List Place → ℕ → List Place → Type 0
+From ps n rest = (k : ℕ) → slice_get ps (n + k) ≡ slice_get rest k
+
+from_later : (ps : List Place) (n : ℕ) (p : Place) (rest : List Place) → From ps n (p ∷ rest) → From ps (n + 1) rest
+from_later ps n p rest from k = let same : n + 1 + k ≡ n + suc k = omega arith in ap (slice_get ps) same ∙ from (suc k)
+
+from_here : (ps : List Place) (n : ℕ) (p : Place) (rest : List Place) → From ps n (p ∷ rest) → slice_get ps n ≡ Some p
+from_here ps n p rest from = let same : n ≡ n + 0 = omega arith in ap (slice_get ps) same ∙ from 0
+
+-- what is found stands there
+module _ (lighter : ℕ → ℕ → Bool) (ps : List Place) where
+  abbrev Stand : Option Standing → Type 0
+  Stand o = (s : Standing) → o ≡ Some s → StandsOpen ps s
+
+  stand_with : (best : Option Standing) (n : ℕ) (p : Place) → slice_get ps n ≡ Some p → Stand best → Stand (lightest_with lighter best (n, p))
+  stand_with best n p there so_far = go (is_open p.finished) refl
     where
-      none_here : is_open p.finished ≡ false → ((q : Place) → In q ps → is_open q.finished ≡ false) → (q : Place) → In q (p ∷ ps) → is_open q.finished ≡ false
-      none_here shut h q (inl e) = subst (λ (r : Place). is_open r.finished ≡ false) e shut
-      none_here shut h q (inr i) = h q i
+      here : is_open p.finished ≡ true → Stand (Some (seen n p))
+      here opened s e = subst (StandsOpen ps) (some_same e) (record { place = p; there = there; still_open = opened; same = refl })
 
-      only_here : ((q : Place) → In q ps → is_open q.finished ≡ false) → (q : Place) → In q (p ∷ ps) → is_open q.finished ≡ true → AtMost ws p.weight q.weight
-      only_here h q (inl e) opened = subst (λ (r : Place). AtMost ws p.weight r.weight) e (at_most_refl ws law p.weight (coded p (inl refl)))
-      only_here h q (inr i) opened = absurd (true≢false (sym opened ∙ h q i))
+      either : is_open p.finished ≡ true → (o : Option Standing) → Stand o → Stand (lighter_of lighter o (seen n p))
+      either opened None h = here opened
+      either opened (Some b) h = choose (lighter p.weight b.weight)
+        where
+          choose : (l : Bool) → Stand (elim l [ true ↦ Some (seen n p) | false ↦ Some b ])
+          choose true = here opened
+          choose false = h
 
-      -- of this place and those after it
-      both : (v : ℕ) → AtMost ws v p.weight → ((q : Place) → In q ps → is_open q.finished ≡ true → AtMost ws v q.weight) →
-          (q : Place) → In q (p ∷ ps) → is_open q.finished ≡ true → AtMost ws v q.weight
-      both v first rest q (inl e) opened = subst (λ (r : Place). AtMost ws v r.weight) e first
-      both v first rest q (inr i) opened = rest q i opened
+      go : (b : Bool) → is_open p.finished ≡ b → Stand (elim b [ true ↦ lighter_of lighter best (seen n p) | false ↦ best ])
+      go true opened = either opened best so_far
+      go false shut = so_far
 
-      only_there : is_open p.finished ≡ false → (v : ℕ) → ((q : Place) → In q ps → is_open q.finished ≡ true → AtMost ws v q.weight) →
-          (q : Place) → In q (p ∷ ps) → is_open q.finished ≡ true → AtMost ws v q.weight
-      only_there shut v rest q (inl e) opened = absurd (true≢false (sym opened ∙ subst (λ (r : Place). is_open r.finished ≡ false) e shut))
-      only_there shut v rest q (inr i) opened = rest q i opened
+  stand_from : (n : ℕ) (rest : List Place) → From ps n rest → (best : Option Standing) → Stand best → Stand (fold (lightest_with lighter) best (enumerate_from n rest))
+  stand_from n [] from best so_far = so_far
+  stand_from n (p ∷ rest) from best so_far =
+      stand_from (n + 1) rest (from_later ps n p rest from) (lightest_with lighter best (n, p)) (stand_with best n p (from_here ps n p rest from) so_far)
 
-      choose : is_open p.finished ≡ true → (k : Candidate) → Finds ws (suc n) ps (Some k) → (b : Bool) → ws.lighter k.weight p.weight ≡ b →
-          Finds ws n (p ∷ ps) (elim b [ true ↦ Some k | false ↦ Some (record { place = n; weight = p.weight }) ])
-      choose opened k h true lt =
-          let code = subst Code h.3 (coded h.0 (inr (at_in ps (suc n) k.place h.0 h.1))) in
-          (h.0, inr h.1, h.2, h.3, both k.weight (at_most_lighter ws law k.weight p.weight code (coded p (inl refl)) lt) h.4)
-      choose opened k h false heavier =
-          let code = subst Code h.3 (coded h.0 (inr (at_in ps (suc n) k.place h.0 h.1))) in (
-            p,
-            inl (refl, refl),
-            opened,
-            refl,
-            both p.weight (at_most_refl ws law p.weight (coded p (inl refl)))
-                (λ q i o. at_most_trans ws law p.weight k.weight q.weight (coded p (inl refl), code, heavier) (h.4 q i o)),
-          )
+  pub lightest_stands : (s : Standing) → lightest_open lighter ps ≡ Some s → StandsOpen ps s
+  lightest_stands = stand_from 0 ps (λ k. let same : 0 + k ≡ k = omega arith in ap (slice_get ps) same) None (λ s e. absurd (none_some e))
 
-      go : (b : Bool) → is_open p.finished ≡ b → (o : Option Candidate) → Finds ws (suc n) ps o →
-          Finds ws n (p ∷ ps) (elim b [ true ↦ lighter_of ws.lighter n p.weight o | false ↦ o ])
-      go true opened None h = (p, inl (refl, refl), opened, refl, only_here h)
-      go true opened (Some k) h = choose opened k h (ws.lighter k.weight p.weight) refl
-      go false shut None h = none_here shut h
-      go false shut (Some k) h = (h.0, inr h.1, h.2, h.3, only_there shut k.weight h.4)
+-- and no open edge is lighter
+module _ (ws : Weights) (law : Lawful ws) (ps : List Place) (coded : Coded ps) where
+  -- of the open edges at the first so many places
+  abbrev Least : ℕ → Option Standing → Type 0
+  Least n None = (k : ℕ) (q : Place) → k < n → slice_get ps k ≡ Some q → is_open q.finished ≡ false
+  Least n (Some s) = Code s.weight × ((k : ℕ) (q : Place) → k < n → slice_get ps k ≡ Some q → is_open q.finished ≡ true → AtMost ws s.weight q.weight)
 
--- a count of finished places never exceeds the places
-pub done_within : (ps : List Place) → done ps ≤ length ps
-done_within [] = omega arith
-done_within (p ∷ ps) = let h : done ps ≤ length ps = done_within ps in go h (is_open p.finished)
-  where
-    go : done ps ≤ length ps → (b : Bool) → elim b as (λ _. ℕ) [ true ↦ done ps | false ↦ suc (done ps) ] ≤ suc (length ps)
-    go h true = omega arith
-    go h false = omega arith
+  module _ (n : ℕ) (p : Place) (there : slice_get ps n ≡ Some p) where
+    code : Code p.weight
+    code = coded p (nth_in ps n p there)
 
--- where all are finished, none is open
-pub all_done : (lighter : ℕ → ℕ → Bool) (n : ℕ) (ps : List Place) → length ps ≤ done ps → lightest_from lighter n ps ≡ None
-all_done lighter n [] h = refl
-all_done lighter n (p ∷ ps) h = go (all_done lighter (suc n) ps) (done_within ps) (is_open p.finished) h
-  where
-    go : (length ps ≤ done ps → lightest_from lighter (suc n) ps ≡ None) → done ps ≤ length ps → (b : Bool) →
-        suc (length ps) ≤ elim b as (λ _. ℕ) [ true ↦ done ps | false ↦ suc (done ps) ] →
-        elim b as (λ _. Option Candidate) [ true ↦ lighter_of lighter n p.weight (lightest_from lighter (suc n) ps) | false ↦ lightest_from lighter (suc n) ps ] ≡ None
-    go after within true h' = absurd (omega arith)
-    go after within false h' = after (omega arith)
+    -- one place more is the last of them
+    last : (k : ℕ) (q : Place) → k < n + 1 → slice_get ps k ≡ Some q → (k < n) ⊎ (p ≡ q)
+    last k q below e = go (cases_order k n)
+      where
+        go : (k ≡ n) ⊎ ((k < n) ⊎ (n < k)) → (k < n) ⊎ (p ≡ q)
+        go (inl same) = inr (some_same (sym there ∙ ap (slice_get ps) (sym same) ∙ e))
+        go (inr (inl less)) = inl less
+        go (inr (inr more)) = absurd (omega arith)
+
+    least_with : (best : Option Standing) → Least n best → Least (n + 1) (lightest_with ws.lighter best (n, p))
+    least_with best so_far = go (is_open p.finished) refl best so_far
+      where
+        heavier : (v : ℕ) → AtMost ws v p.weight → ((k : ℕ) (q : Place) → k < n → slice_get ps k ≡ Some q → is_open q.finished ≡ true → AtMost ws v q.weight) →
+            (k : ℕ) (q : Place) → k < n + 1 → slice_get ps k ≡ Some q → is_open q.finished ≡ true → AtMost ws v q.weight
+        heavier v here before k q below e opened = at_last (last k q below e)
+          where
+            at_last : (k < n) ⊎ (p ≡ q) → AtMost ws v q.weight
+            at_last (inl less) = before k q less e opened
+            at_last (inr same) = subst (λ (r : Place). AtMost ws v r.weight) same here
+
+        only : ((k : ℕ) (q : Place) → k < n → slice_get ps k ≡ Some q → is_open q.finished ≡ false) → Least (n + 1) (Some (seen n p))
+        only none = (code, heavier p.weight (at_most_refl ws law p.weight code) (λ k q below e opened. absurd (true≢false (sym opened ∙ none k q below e))))
+
+        choose : (s : Standing) → Least n (Some s) → (l : Bool) → ws.lighter p.weight s.weight ≡ l → Least (n + 1) (elim l [ true ↦ Some (seen n p) | false ↦ Some s ])
+        choose s (codes, before) true lt = (
+          code,
+          heavier p.weight (at_most_refl ws law p.weight code)
+              (λ k q below e opened. at_most_trans ws law p.weight s.weight q.weight (at_most_lighter ws law p.weight s.weight code codes lt) (before k q below e opened)),
+        )
+        choose s (codes, before) false not_lighter = (codes, heavier s.weight (codes, code, not_lighter) before)
+
+        passed : is_open p.finished ≡ false → (o : Option Standing) → Least n o → Least (n + 1) o
+        passed shut None none = λ k q below e. at_last k q e (last k q below e)
+          where
+            at_last : (k : ℕ) (q : Place) → slice_get ps k ≡ Some q → (k < n) ⊎ (p ≡ q) → is_open q.finished ≡ false
+            at_last k q e (inl less) = none k q less e
+            at_last k q e (inr same) = subst (λ (r : Place). is_open r.finished ≡ false) same shut
+        passed shut (Some s) (codes, before) = (codes, λ k q below e opened. at_last k q e opened (last k q below e))
+          where
+            at_last : (k : ℕ) (q : Place) → slice_get ps k ≡ Some q → is_open q.finished ≡ true → (k < n) ⊎ (p ≡ q) → AtMost ws s.weight q.weight
+            at_last k q e opened (inl less) = before k q less e opened
+            at_last k q e opened (inr same) = absurd (true≢false (sym opened ∙ subst (λ (r : Place). is_open r.finished ≡ false) same shut))
+
+        go : (b : Bool) → is_open p.finished ≡ b → (o : Option Standing) → Least n o → Least (n + 1) (elim b [ true ↦ lighter_of ws.lighter o (seen n p) | false ↦ o ])
+        go true opened None none = only none
+        go true opened (Some s) before = choose s before (ws.lighter p.weight s.weight) refl
+        go false shut o before = passed shut o before
+
+  least_from : (n : ℕ) (rest : List Place) → From ps n rest → (best : Option Standing) → Least n best → Least (n + length rest) (fold (lightest_with ws.lighter) best (enumerate_from n rest))
+  least_from n [] from best so_far = let same : n ≡ n + 0 = omega arith in subst (λ m. Least m best) same so_far
+  least_from n (p ∷ rest) from best so_far =
+      let same : n + 1 + length rest ≡ n + length (p ∷ rest) = omega arith in
+      subst (λ m. Least m (fold (lightest_with ws.lighter) (lightest_with ws.lighter best (n, p)) (enumerate_from (n + 1) rest))) same
+      (least_from (n + 1) rest (from_later ps n p rest from) (lightest_with ws.lighter best (n, p)) (least_with n p (from_here ps n p rest from) best so_far))
+
+  -- what the search says of all places
+  abbrev pub Finds : Option Standing → Type 0
+  Finds None = (q : Place) → In q ps → is_open q.finished ≡ false
+  Finds (Some s) = (q : Place) → In q ps → is_open q.finished ≡ true → AtMost ws s.weight q.weight
+
+  pub lightest_finds : Finds (lightest_open ws.lighter ps)
+  lightest_finds =
+      go (lightest_open ws.lighter ps)
+      (least_from 0 ps (λ k. let same : 0 + k ≡ k = omega arith in ap (slice_get ps) same) None (λ k q below e. absurd (omega arith)))
+    where
+      go : (o : Option Standing) → Least (0 + length ps) o → Finds o
+      go None none = λ q i. let (k, e) = in_nth ps q i in let within : k < length ps = nth_below ps k q e in none k q (omega arith) e
+      go (Some s) (codes, before) =
+          λ q i opened. let (k, e) = in_nth ps q i in let within : k < length ps = nth_below ps k q e in before k q (omega arith) e opened

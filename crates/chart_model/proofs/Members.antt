@@ -2,7 +2,7 @@
 use Rattle.std.proofs.Common.{◌≡◌, ℕ, zero, suc, ◌+◌, ◌<◌, Bool, true, ◌⊎◌, List, [], ◌∷◌, ◌++◌, length, take, Some, None, Option, refl, ap, subst, inl, inr, arith}
 use Rattle.std.specs.List.{slice_get}
 use Rattle.std.proofs.lemmas.Bool.{and_from}
-use Rattle.std.specs.List.{list_all}
+use Rattle.std.specs.List.{list_all, AllByRecursion}
 use Rattle.records.proofs.Every.{every_nth}
 
 abbrev pub In : {A : Type 0} → A → List A → Type 0
@@ -43,6 +43,16 @@ pub nth_below : {A : Type 0} (xs : List A) (n : ℕ) (a : A) → slice_get xs n 
 nth_below [] n a e = absurd (none_some e)
 nth_below (x ∷ xs) zero a e = omega arith
 nth_below (x ∷ xs) (suc n) a e = let h : n < length xs = nth_below xs n a e in omega arith
+
+-- what holds of every member
+pub all_nth : {A : Type 0} (P : A → Type 0) (xs : List A) → AllByRecursion P xs → (n : ℕ) (a : A) → slice_get xs n ≡ Some a → P a
+all_nth P [] all n a e = absurd (none_some e)
+all_nth P (x ∷ xs) all zero a e = subst P (some_same e) all.0
+all_nth P (x ∷ xs) all (suc n) a e = all_nth P xs all.1 n a e
+
+pub all_from : {A : Type 0} (P : A → Type 0) (xs : List A) → ((a : A) → In a xs → P a) → AllByRecursion P xs
+all_from P [] each = tt
+all_from P (x ∷ xs) each = (each x (inl refl), all_from P xs (λ a i. each a (inr i)))
 
 -- a test that every member passes
 module _ {A : Type 0} (passes : A → Bool) where

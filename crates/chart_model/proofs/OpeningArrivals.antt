@@ -4,7 +4,7 @@ use Rattle.std.proofs.lemmas.Bool.{cases_eq}
 use Rattle.weighing.specs.Laws.{Weights}
 use Rattle.grammar.specs.Rules.{Rule}
 use Rattle.chart_model.specs.Task.{Task}
-use Rattle.chart_model.specs.Plain.{gathered, word_brings, empty_brings, nodes_bring, first_arrivals}
+use Rattle.chart_model.specs.Plain.{arriving, gathered, word_brings, empty_brings, nodes_bring, first_arrivals}
 use Rattle.chart_model.specs.Origins.{ByWord, ByEmpty}
 use Rattle.chart_model.specs.declared.edge.Edge.{Edge}
 use Rattle.chart_model.specs.declared.edge.Edge.TheVariants.{Passive}
@@ -18,14 +18,14 @@ bare_rule : (ws : Weights) (i n : ℕ) (r : Rule) (a : Arrival) → empty_brings
 bare_rule ws i n r a = go r.right refl
   where
     go : (xs : List ℕ) → r.right ≡ xs →
-        elim xs as (λ _. Option Arrival) [ [] ↦ Some (record { edge = Passive r.left i i; weight = ws.weigh r.mark; origin = Empty n }) | x ∷ ys ↦ None ] ≡ Some a →
+        elim xs as (λ _. Option Arrival) [ [] ↦ Some (arriving (Passive r.left i i) (ws.weigh r.mark) (Empty n)) | x ∷ ys ↦ None ] ≡ Some a →
         (r.right ≡ []) × SameArrival (Passive r.left i i) (ws.weigh r.mark) (Empty n) a
     go [] bare h = (bare, some_arrival (Passive r.left i i) (ws.weigh r.mark) (Empty n) a h)
     go (x ∷ ys) laden h = absurd (none_some h)
 
-bare_brings : (ws : Weights) (i n : ℕ) (r : Rule) → r.right ≡ [] → empty_brings ws i n r ≡ Some (record { edge = Passive r.left i i; weight = ws.weigh r.mark; origin = Empty n })
+bare_brings : (ws : Weights) (i n : ℕ) (r : Rule) → r.right ≡ [] → empty_brings ws i n r ≡ Some (arriving (Passive r.left i i) (ws.weigh r.mark) (Empty n))
 bare_brings ws i n r bare =
-    ap (λ (xs : List ℕ). elim xs as (λ _. Option Arrival) [ [] ↦ Some (record { edge = Passive r.left i i; weight = ws.weigh r.mark; origin = Empty n }) | x ∷ ys ↦ None ]) bare
+    ap (λ (xs : List ℕ). elim xs as (λ _. Option Arrival) [ [] ↦ Some (arriving (Passive r.left i i) (ws.weigh r.mark) (Empty n)) | x ∷ ys ↦ None ]) bare
 
 nodes_from : (ws : Weights) (rules : List Rule) (i count : ℕ) (a : Arrival) → In a (nodes_bring ws rules i count) →
     (h : ℕ) × (h < i + count) × In a (gathered (empty_brings ws h) 0 rules)
@@ -75,7 +75,7 @@ opening_from t a i =
 pub opening_words : (t : Task) (n : ℕ) (e : Edge) (v : ℕ) → ByWord t n e v → Brings (first_arrivals t) e v
 opening_words t n e v c =
     let w = c.heard in
-    let a : Arrival = record { edge = Passive w.symbol w.from w.to; weight = t.weights.weigh w.mark; origin = FromWord n } in
+    let a = arriving (Passive w.symbol w.from w.to) (t.weights.weigh w.mark) (FromWord n) in
     brings_left (gathered (word_brings t.weights) 0 t.words) (nodes_bring t.weights t.rules 0 (suc t.last)) e v
     (a, gathered_all (word_brings t.weights) 0 t.words a (n, w, nth_at t.words n w c.there, refl), sym c.edge, sym c.weight)
 
@@ -84,7 +84,7 @@ opening_empties t n e v c =
     let r = c.by in
     let i = c.node in
     let within = c.within in
-    let a : Arrival = record { edge = Passive r.left i i; weight = t.weights.weigh r.mark; origin = Empty n } in
+    let a = arriving (Passive r.left i i) (t.weights.weigh r.mark) (Empty n) in
     brings_right (gathered (word_brings t.weights) 0 t.words) (nodes_bring t.weights t.rules 0 (suc t.last)) e v
     (nodes_all t.weights t.rules 0 (suc t.last) i e v (omega arith) (omega arith)
     (a, gathered_all (empty_brings t.weights i) 0 t.rules a (n, r, nth_at t.rules n r c.there, bare_brings t.weights i n r c.bare), sym c.edge, sym c.weight))

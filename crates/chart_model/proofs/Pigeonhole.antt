@@ -1,12 +1,12 @@
 -- Different edges that all have places are no more than the places. Assumes nothing.
 use Rattle.std.proofs.Common.{◌≡◌, ℕ, suc, ◌≤◌, Bool, true, false, ◌||◌, ◌⊎◌, List, [], ◌∷◌, length, Some, sym, refl, ap, ◌∙◌, inl, inr, arith}
-use Rattle.std.specs.List.{slice_get}
+use Rattle.std.specs.List.{slice_get, IsDistinct}
 use Rattle.chart_model.specs.Plain.{same_edge, holds}
-use Rattle.chart_model.specs.Stands.{AllApart}
 use Rattle.chart_model.specs.declared.edge.Edge.{Edge}
 use Rattle.chart_model.specs.declared.place.Place.{Place}
 use Rattle.std.proofs.lemmas.Bool.{true≢false, or_cases, or_left, or_right}
 use Rattle.chart_model.proofs.Edges.{same_edge_true, same_edge_from}
+use Rattle.chart_model.proofs.Members.{all_nth}
 
 -- the places without the first of an edge
 abbrev without : Edge → List Place → List Place
@@ -35,10 +35,11 @@ without_holds e f (p ∷ ps) other h =
     go false s later (inl g) = or_left (same_edge p.edge f) (holds f (without e ps)) g
     go false s later (inr g) = or_right (same_edge p.edge f) (holds f (without e ps)) (later g)
 
-pub pigeonhole : (es : List Edge) (ps : List Place) → AllApart es → ((f : Edge) (n : ℕ) → slice_get es n ≡ Some f → holds f ps ≡ true) → length es ≤ length ps
+pub pigeonhole : (es : List Edge) (ps : List Place) → IsDistinct same_edge es → ((f : Edge) (n : ℕ) → slice_get es n ≡ Some f → holds f ps ≡ true) → length es ≤ length ps
+unfolding IsDistinct
 pigeonhole [] ps distinct held = omega arith
 pigeonhole (e ∷ es) ps distinct held =
     let fewer : length es ≤ length (without e ps) =
-    pigeonhole es (without e ps) distinct.1 (λ f n at. without_holds e f ps (distinct.0 f n at) (held f (suc n) at)) in
+    pigeonhole es (without e ps) distinct.1 (λ f n at. without_holds e f ps (all_nth (λ g. same_edge e g ≡ false) es distinct.0 n f at) (held f (suc n) at)) in
     let one_less : length ps ≡ suc (length (without e ps)) = without_length e ps (held e 0 refl) in
     omega arith

@@ -8,7 +8,8 @@ use Rattle.chart_model.specs.declared.place.Place.{Place}
 use Rattle.std.proofs.lemmas.Bool.{true≢false, and_parts, and_cases, or_parts, or_from}
 use Rattle.chart_model.proofs.AtMost.{AtMost, at_most_refl, at_most_lighter, at_most_trans}
 use Rattle.chart_model.proofs.Members.{In}
-use Rattle.chart_model.proofs.Edges.{same_edge_true, same_edge_back}
+use Rattle.chart_model.proofs.Edges.{same_edge_true, same_edge_from, same_edge_back}
+use Rattle.chart_model.proofs.Done.{done_by, done_cons}
 
 -- the edge has a place, and is no heavier there
 abbrev pub Reaches : Weights → List Place → Edge → ℕ → Type 0
@@ -146,8 +147,8 @@ module _ (lighter : ℕ → ℕ → Bool) (a : Arrival) where
   placed_done [] = refl
   placed_done (q ∷ ps) =
       placed_cases lighter a q ps (λ qs. done qs ≡ done (q ∷ ps))
-      (λ _. ap (λ b. elim b [ true ↦ done ps | false ↦ suc (done ps) ]) (improved_open q))
-      (λ _. ap (λ m. elim (is_open q.finished) [ true ↦ m | false ↦ suc m ]) (placed_done ps))
+      (λ _. done_cons (improved lighter a q) ps ∙ ap (λ b. done_by b (done ps)) (improved_open q) ∙ sym (done_cons q ps))
+      (λ _. done_cons q (placed lighter a ps) ∙ ap (done_by (is_open q.finished)) (placed_done ps) ∙ sym (done_cons q ps))
 
   pub placed_length : (ps : List Place) → length (placed lighter a ps) ≤ suc (length ps)
   placed_length [] = omega arith
@@ -156,8 +157,24 @@ module _ (lighter : ℕ → ℕ → Bool) (a : Arrival) where
       (λ _. omega arith)
       (λ _. let h : length (placed lighter a ps) ≤ suc (length ps) = placed_length ps in omega arith)
 
+  pub placed_grows : (ps : List Place) → length ps ≤ length (placed lighter a ps)
+  placed_grows [] = omega arith
+  placed_grows (q ∷ ps) =
+      placed_cases lighter a q ps (λ qs. suc (length ps) ≤ length qs)
+      (λ _. omega arith)
+      (λ _. let h : length ps ≤ length (placed lighter a ps) = placed_grows ps in omega arith)
+
   pub placed_held : (ps : List Place) → holds a.edge ps ≡ true → length (placed lighter a ps) ≡ length ps
   placed_held [] h = absurd (true≢false (sym h))
   placed_held (q ∷ ps) h =
       placed_cases lighter a q ps (λ qs. length qs ≡ suc (length ps)) (λ _. refl)
       (λ other. ap suc (placed_held ps (subst (λ b. (b || holds a.edge ps) ≡ true) other h)))
+
+  -- a new edge takes one place more
+  pub placed_new : (ps : List Place) → holds a.edge ps ≡ false → length (placed lighter a ps) ≡ suc (length ps)
+  placed_new [] h = refl
+  placed_new (q ∷ ps) h =
+      let parts = or_parts (same_edge q.edge a.edge) (holds a.edge ps) h in
+      placed_cases lighter a q ps (λ qs. length qs ≡ suc (suc (length ps)))
+      (λ same. absurd (true≢false (sym (same_edge_from q.edge a.edge same) ∙ parts.0)))
+      (λ _. ap suc (placed_new ps parts.1))

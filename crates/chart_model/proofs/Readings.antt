@@ -4,7 +4,7 @@ use Rattle.std.specs.List.{slice_get}
 use Rattle.std.proofs.lemmas.Bool.{and_parts}
 use Rattle.chart_model.specs.Task.{Task, Sound}
 use Rattle.chart_model.specs.Listing.{headed}
-use Rattle.chart_model.specs.Plain.{Chart, is_open, done}
+use Rattle.chart_model.specs.Plain.{Chart, is_open, edge_of, done}
 use Rattle.chart_model.specs.Stands.{Carries}
 use Rattle.chart_model.specs.Origins.{AtPlace, Agrees, number_at, earlier, names_earlier, Grounded}
 use Rattle.chart_model.specs.Reading.{rule_of, rule_at, named, followed, reading_at, reading, LawOfReadings}
@@ -17,7 +17,7 @@ use Rattle.chart_model.specs.declared.place.Place.{Place}
 use Rattle.chart_model.specs.declared.place.Standing.{Standing}
 use Rattle.chart_model.proofs.Derivations.{Reads}
 use Rattle.chart_model.proofs.Conclusions.{word_reads, empty_reads, first_reads, next_reads}
-use Rattle.chart_model.proofs.Lightest.{done_within}
+use Rattle.chart_model.proofs.Done.{done_within}
 use Rattle.chart_model.proofs.Numbering.{earlier_parts, shut_earlier, names_before}
 use Rattle.chart_model.proofs.Carried.{carried_stands}
 use Rattle.chart_model.proofs.Grounding.{grounded_reached}
@@ -86,15 +86,15 @@ module _ (t : Task) (s : Sound t) (c : Chart) (grounded : Grounded t c) where
 
   pub reads_carried : (e : Edge) (w : ℕ) → Carries c e w → Reads t e w (reading c.places e)
   reads_carried e w h =
-      let f = carried_stands 0 e c.places w h in
+      let f = carried_stands e c.places w h in
       let n = f.number in
       let high = (earlier_parts c.places (suc c.finished) n (shut_earlier c grounded.earlier n f.place f.there f.shut)).1 in
       let counted : done c.places ≡ c.finished = grounded.counted in
       let most = done_within c.places in
       let is : reading c.places e ≡ reading_at c.places n =
-      ap (λ (o : Option ℕ). elim o as (λ _. List Node) [ None ↦ [] | Some m ↦ reading_at c.places m ]) (f.first ∙ ap Some (omega arith)) in
+      ap (λ (o : Option ℕ). elim o as (λ _. List Node) [ None ↦ [] | Some m ↦ reading_at c.places m ]) f.found in
       subst (Reads t e w) (sym is)
       (subst₂ (λ d v. Reads t d v (reading_at c.places n)) f.edge f.weight (read_to (length c.places) n f.place f.there f.shut (omega arith)))
 
 pub law_of_readings : (t : Task) → Sound t → LawOfReadings t
-law_of_readings t s c reached x i j w h = reads_carried t s c (grounded_reached t s reached) (Passive x i j) w h
+law_of_readings t s c reached p w h = reads_carried t s c (grounded_reached t s reached) (edge_of p) w h

@@ -6,11 +6,10 @@ use Rattle.std.specs.Option.{option_or}
 use Rattle.std.proofs.lemmas.Bool.{true≢false, eqb-true, eq-eqb}
 use Rattle.grammar.specs.Rules.{Rule}
 use Rattle.chart_model.specs.Task.{Task}
-use Rattle.chart_model.specs.Plain.{is_open, gathered, standing, reached, wants, rule_takes, rule_brings, active_takes, edge_takes, takes, place_brings, arrivals}
+use Rattle.chart_model.specs.Plain.{is_open, arriving, seen, gathered, standing, reached, wants, rule_takes, rule_brings, active_takes, edge_takes, takes, place_brings, arrivals}
 use Rattle.chart_model.specs.Origins.{Begins, Joined, AtPlace}
 use Rattle.chart_model.specs.declared.edge.Edge.{Edge}
 use Rattle.chart_model.specs.declared.edge.Edge.TheVariants.{Passive, Active}
-use Rattle.chart_model.specs.declared.origin.Origin.{Origin}
 use Rattle.chart_model.specs.declared.origin.Origin.TheVariants.{First, Next}
 use Rattle.chart_model.specs.declared.place.Arrival.{Arrival}
 use Rattle.chart_model.specs.declared.place.Place.{Place}
@@ -18,9 +17,6 @@ use Rattle.chart_model.specs.declared.place.Standing.{Standing}
 use Rattle.chart_model.proofs.Members.{In, in_either, in_nth, none_some, at_nth, nth_at}
 use Rattle.chart_model.proofs.Conclusions.{wants_true, wants_from}
 use Rattle.chart_model.proofs.Gathering.{Brings, brings_left, brings_right, some_arrival, gathered_from, gathered_all}
-
-abbrev arriving : Edge → ℕ → Origin → Arrival
-arriving e v o = record { edge = e; weight = v; origin = o }
 
 -- RULES THAT BEGIN WITH A FINISHED EDGE
 
@@ -157,23 +153,17 @@ joined_moved m n j =
       conclusion = j.conclusion;
     }
 
-abbrev standing_at : ℕ → Place → Standing
-standing_at n p = record { at = n; edge = p.edge; weight = p.weight }
-
-standing_shut : (n : ℕ) (p : Place) → is_open p.finished ≡ false → standing n p ≡ Some (standing_at n p)
+standing_shut : (n : ℕ) (p : Place) → is_open p.finished ≡ false → standing n p ≡ Some (seen n p)
 standing_shut n p = go p.finished
   where
-    go : (m : Option ℕ) → is_open m ≡ false → elim m as (λ _. Option Standing) [ None ↦ None | Some k ↦ Some (standing_at n p) ] ≡ Some (standing_at n p)
+    go : (m : Option ℕ) → is_open m ≡ false → elim m as (λ _. Option Standing) [ None ↦ None | Some k ↦ Some (seen n p) ] ≡ Some (seen n p)
     go None shut = absurd (true≢false shut)
     go (Some k) shut = refl
 
 module _ (t : Task) (s : Standing) (n : ℕ) (p : Place) where
-  abbrev here : Standing
-  here = standing_at n p
-
   -- a place that brings something is finished, and takes the edge or is taken by it
   place_brings_from : (a : Arrival) → place_brings t.rules t.weights s n p ≡ Some a →
-      (is_open p.finished ≡ false) × ((takes t.rules t.weights (standing_at n p) s ≡ Some a) ⊎ (takes t.rules t.weights s (standing_at n p) ≡ Some a))
+      (is_open p.finished ≡ false) × ((takes t.rules t.weights (seen n p) s ≡ Some a) ⊎ (takes t.rules t.weights s (seen n p) ≡ Some a))
   place_brings_from a = go p.finished refl
     where
       either : (o m : Option Arrival) → option_or o m ≡ Some a → (o ≡ Some a) ⊎ (m ≡ Some a)
@@ -181,15 +171,15 @@ module _ (t : Task) (s : Standing) (n : ℕ) (p : Place) where
       either (Some b) m h = inl h
 
       go : (m : Option ℕ) → p.finished ≡ m →
-          elim (elim m as (λ _. Option Standing) [ None ↦ None | Some k ↦ Some (standing_at n p) ]) as (λ _. Option Arrival)
+          elim (elim m as (λ _. Option Standing) [ None ↦ None | Some k ↦ Some (seen n p) ]) as (λ _. Option Arrival)
           [ None ↦ None | Some q ↦ option_or (takes t.rules t.weights q s) (takes t.rules t.weights s q) ] ≡ Some a →
-          (is_open p.finished ≡ false) × ((takes t.rules t.weights (standing_at n p) s ≡ Some a) ⊎ (takes t.rules t.weights s (standing_at n p) ≡ Some a))
+          (is_open p.finished ≡ false) × ((takes t.rules t.weights (seen n p) s ≡ Some a) ⊎ (takes t.rules t.weights s (seen n p) ≡ Some a))
       go None same h = absurd (none_some h)
       go (Some k) same h =
-          (ap is_open same, either (takes t.rules t.weights (standing_at n p) s) (takes t.rules t.weights s (standing_at n p)) h)
+          (ap is_open same, either (takes t.rules t.weights (seen n p) s) (takes t.rules t.weights s (seen n p)) h)
 
   finished_brings : is_open p.finished ≡ false →
-      place_brings t.rules t.weights s n p ≡ option_or (takes t.rules t.weights (standing_at n p) s) (takes t.rules t.weights s (standing_at n p))
+      place_brings t.rules t.weights s n p ≡ option_or (takes t.rules t.weights (seen n p) s) (takes t.rules t.weights s (seen n p))
   finished_brings shut =
       ap (λ o. elim o as (λ _. Option Arrival) [ None ↦ None | Some q ↦ option_or (takes t.rules t.weights q s) (takes t.rules t.weights s q) ])
       (standing_shut n p shut)
@@ -219,9 +209,9 @@ arrivals_from t s ps a i = go (in_either a (gathered (rule_brings t.weights s) 0
         let (n, p, at, brought) = gathered_from (place_brings t.rules t.weights s) 0 ps a j in
         let (shut, taken) = place_brings_from t s n p a brought in
         inr (
-          standing_at n p,
+          seen n p,
           record { place = p; there = at_nth ps n p at; shut = shut; edge = refl; weight = refl },
-          elim taken [ inl h ↦ inl (takes_from t (standing_at n p) s a h) | inr h ↦ inr (takes_from t s (standing_at n p) a h) ],
+          elim taken [ inl h ↦ inl (takes_from t (seen n p) s a h) | inr h ↦ inr (takes_from t s (seen n p) a h) ],
         )
 
 pub arises_follows : (t : Task) (s : Standing) (ps : List Place) (a : Arrival) → Arises t s ps a → Follows t s ps a.edge a.weight
@@ -238,7 +228,7 @@ follows_brings t s ps e v (inl (n, b)) =
 follows_brings t s ps e v (inr (q, at, joined)) =
     brings_right (gathered (rule_brings t.weights s) 0 t.rules) (gathered (place_brings t.rules t.weights s) 0 ps) e v (go joined)
   where
-    same : standing_at q.at at.place ≡ q
+    same : seen q.at at.place ≡ q
     same = λ d. record { at = q.at; edge = at.edge d; weight = at.weight d }
 
     brought : place_brings t.rules t.weights s q.at at.place ≡ option_or (takes t.rules t.weights q s) (takes t.rules t.weights s q)

@@ -4,21 +4,21 @@ use Rattle.std.specs.List.{slice_get}
 use Rattle.std.proofs.lemmas.Bool.{true≢false}
 use Rattle.weighing.specs.Laws.{Code}
 use Rattle.chart_model.specs.Task.{Task, Sound}
-use Rattle.chart_model.specs.Plain.{Chart, Candidate, is_open, ended, finish, finishing, arrivals, finished_at, lightest_open, step, steps, opened}
+use Rattle.chart_model.specs.Plain.{Chart, is_open, seen, ended, finish, finishing, arrivals, completed, lightest_open, step, steps, opened}
 use Rattle.chart_model.specs.Stands.{Weighs, Reached, by_opening, by_step}
 use Rattle.chart_model.specs.declared.edge.Edge.{Edge}
 use Rattle.chart_model.specs.declared.place.Arrival.{Arrival}
 use Rattle.chart_model.specs.declared.place.Place.{Place}
 use Rattle.chart_model.specs.declared.place.Standing.{Standing}
 use Rattle.chart_model.proofs.AtMost.{AtMost, at_most_refl, at_most_trans}
-use Rattle.chart_model.proofs.Members.{In, nth_in, at_nth}
+use Rattle.chart_model.proofs.Members.{In, nth_in}
 use Rattle.chart_model.proofs.Derivations.{weighs_code}
 use Rattle.chart_model.proofs.Conclusions.{first_weighs, next_weighs, first_no_gain, next_no_gain_active, next_no_gain_child}
 use Rattle.chart_model.proofs.Placing.{Beyond, Brought}
 use Rattle.chart_model.proofs.Arriving.{Answered, Coded, arrive_all_from, arrive_all_finished, arrive_all_apart, arrive_all_refused, arrive_all_keeps, arrive_all_answers}
 use Rattle.chart_model.specs.Origins.{Begins, Joined, AtPlace}
 use Rattle.chart_model.proofs.StepArrivals.{Follows, moved, in_place, begins_moved, joined_moved, arrivals_from, arises_follows, follows_brings}
-use Rattle.chart_model.proofs.Lightest.{Finds, lightest_finds}
+use Rattle.chart_model.proofs.Lightest.{Finds, lightest_finds, lightest_stands}
 use Rattle.chart_model.proofs.Finishing.{finish_from, finish_keeps, finish_apart}
 use Rattle.chart_model.proofs.Invariant.{Inv, inv_coded, brings_answered, brought_weighs, inv_opened}
 
@@ -32,31 +32,28 @@ pub record Chosen (t : Task) (c : Chart) (n : ℕ) (p : Place) : Type 0 where
 -- the two ways of a step: nothing changes, or a lightest open edge is finished
 pub step_cases : (t : Task) → Sound t → (capacity : ℕ) (c : Chart) → Coded c.places → (Q : Chart → Type 0) →
     ((c.full ≡ true) ⊎ ((q : Place) → In q c.places → is_open q.finished ≡ false) → Q c) →
-    ((n : ℕ) (p : Place) → Chosen t c n p → Q (finished_at t capacity c n p)) →
+    ((n : ℕ) (p : Place) → Chosen t c n p → Q (completed t capacity c (seen n p))) →
     Q (step t capacity c)
 step_cases t s capacity c coded Q idle busy = go c.full refl
   where
-    ending : Candidate → Option Place → Chart
-    ending k o = elim o [ None ↦ c | Some p ↦ finished_at t capacity c k.place p ]
-
-    found : c.full ≡ false → (o : Option Candidate) → Finds t.weights 0 c.places o →
-        Q (elim o [ None ↦ c | Some k ↦ ending k (slice_get c.places k.place) ])
-    found f None h = idle (inr h)
-    found f (Some k) h =
-        let there = at_nth c.places k.place h.0 h.1 in
-        let chosen : Chosen t c k.place h.0 =
+    found : c.full ≡ false → (o : Option Standing) → lightest_open t.weights.lighter c.places ≡ o → Finds t.weights s.weighing c.places coded o →
+        Q (elim o [ None ↦ c | Some s ↦ completed t capacity c s ])
+    found f None is h = idle (inr h)
+    found f (Some k) is h =
+        let it = lightest_stands t.weights.lighter c.places k is in
+        let chosen : Chosen t c k.at it.place =
         record {
           not_full = f;
-          there = there;
-          still_open = h.2;
-          lightest = λ q i o. subst (λ v. AtMost t.weights v q.weight) (sym h.3) (h.4 q i o);
+          there = it.there;
+          still_open = it.still_open;
+          lightest = λ q i o. subst (λ (r : Standing). AtMost t.weights r.weight q.weight) (sym it.same) (h q i o);
         } in
-        subst (λ (o : Option Place). Q (ending k o)) (sym there) (busy k.place h.0 chosen)
+        subst (λ r. Q (completed t capacity c r)) it.same (busy k.at it.place chosen)
 
     go : (b : Bool) → c.full ≡ b →
-        Q (elim b [ true ↦ c | false ↦ elim (lightest_open t.weights.lighter c.places) [ None ↦ c | Some k ↦ ending k (slice_get c.places k.place) ] ])
+        Q (elim b [ true ↦ c | false ↦ elim (lightest_open t.weights.lighter c.places) [ None ↦ c | Some s ↦ completed t capacity c s ] ])
     go true f = idle (inl f)
-    go false f = found f (lightest_open t.weights.lighter c.places) (lightest_finds t.weights s.weighing 0 c.places coded)
+    go false f = found f (lightest_open t.weights.lighter c.places) refl (lightest_finds t.weights s.weighing c.places coded)
 
 -- what follows from edges with derivations has a derivation, and is no lighter than the edge that it follows from
 pub follows_weighs : (t : Task) (s : Sound t) (ps : List Place) → ((p : Place) → In p ps → Weighs t p.edge p.weight) →
@@ -97,13 +94,13 @@ module _ (t : Task) (s : Sound t) (capacity : ℕ) (c : Chart) (inv : Inv t c) (
 
   -- the edge just finished
   abbrev now : Standing
-  now = record { at = n; edge = p.edge; weight = p.weight }
+  now = seen n p
 
   abbrev after : Chart
-  after = finished_at t capacity c n p
+  after = completed t capacity c (seen n p)
 
   abbrev brought : List Arrival
-  brought = arrivals t (record { at = n; edge = p.edge; weight = p.weight }) (finish (suc c.finished) n c.places)
+  brought = arrivals t (seen n p) (finish (suc c.finished) n c.places)
 
   p_in : In p c.places
   p_in = nth_in c.places n p chosen.there
@@ -208,7 +205,7 @@ module _ (t : Task) (s : Sound t) (capacity : ℕ) (c : Chart) (inv : Inv t c) (
   after_nexts q r ((k, at), inl _) (_, inr same) e v j = newly e v (inr (moved k q, at, inl (subst (λ z. Joined t (moved k q) z e v) same (joined_moved k n j))))
   after_nexts q r (_, inr same) ((m, at), _) e v j = newly e v (inr (moved m r, at, inr (subst (λ z. Joined t z (moved m r) e v) same (joined_moved n m j))))
 
-  pub inv_stepped : Inv t (finished_at t capacity c n p)
+  pub inv_stepped : Inv t (completed t capacity c (seen n p))
   inv_stepped =
       record {
         sound = λ q i. after_sound q (was q i);

@@ -1,12 +1,15 @@
 -- A chart keeps to its capacity, and stops by as many steps. Assumes nothing.
-use Rattle.std.proofs.Common.{◌≡◌, ℕ, zero, suc, ◌+◌, ◌≤◌, Bool, true, false, ◌⊎◌, List, [], ◌∷◌, length, Some, None, Option, sym, refl, ap, ◌∙◌, subst, inl, inr, arith}
-use Rattle.chart_model.specs.Task.{Task, Sound}
-use Rattle.chart_model.specs.Plain.{Chart, Candidate, is_open, blank, first_arrivals, lightest_open, arrivals, finishing, step, steps, stopped, opened, done}
-use Rattle.chart_model.specs.declared.place.Place.{Place}
+use Rattle.std.proofs.Common.{◌≡◌, ℕ, zero, suc, ◌+◌, ◌≤◌, Bool, true, false, ◌||◌, ◌⊎◌, length, Some, None, Err, Option, Result, is_none, sym, refl, ap, ◌∙◌, subst, inl, inr, arith}
 use Rattle.std.proofs.lemmas.Bool.{true≢false, false≢true}
+use Rattle.chart_model.specs.Task.{Task, Sound}
+use Rattle.chart_model.specs.Plain.{Chart, is_open, seen, blank, first_arrivals, lightest_open, arrivals, finishing, completed, counted, step, step_answer, steps, stopped, stop_number, opened, done}
+use Rattle.chart_model.specs.Stands.{Fits}
+use Rattle.chart_model.specs.declared.place.Place.{Place}
+use Rattle.chart_model.specs.declared.place.Standing.{Standing}
 use Rattle.chart_model.proofs.Members.{In, nth_in}
-use Rattle.chart_model.proofs.Arriving.{Fits, arrive_all_done, arrive_all_fits}
-use Rattle.chart_model.proofs.Lightest.{Finds, lightest_finds, all_done}
+use Rattle.chart_model.proofs.Done.{open_left}
+use Rattle.chart_model.proofs.Arriving.{arrive_all_done, arrive_all_fits}
+use Rattle.chart_model.proofs.Lightest.{Finds, lightest_finds, lightest_stands}
 use Rattle.chart_model.proofs.Finishing.{finish_length, finish_done}
 use Rattle.chart_model.proofs.Invariant.{Inv, inv_coded}
 use Rattle.chart_model.proofs.Stepping.{Chosen, step_cases, inv_step}
@@ -16,14 +19,17 @@ use Rattle.chart_model.proofs.Stepping.{Chosen, step_cases, inv_step}
 pub fits_opened : (t : Task) (capacity : ℕ) → Fits capacity (opened t capacity)
 fits_opened t capacity =
     arrive_all_fits capacity t.weights.lighter (first_arrivals t) blank
-    (omega arith, λ f. absurd (true≢false (sym f)))
+    (record { within = omega arith; taken = λ f. absurd (true≢false (sym f)) })
 
 pub fits_step : (t : Task) → Sound t → (capacity : ℕ) (c : Chart) → Inv t c → Fits capacity c → Fits capacity (step t capacity c)
 fits_step t s capacity c inv fits =
     step_cases t s capacity c (inv_coded t s c inv) (Fits capacity) (λ _. fits)
     (λ n p chosen.
-    arrive_all_fits capacity t.weights.lighter (arrivals t (record { at = n; edge = p.edge; weight = p.weight }) (finishing c n).places) (finishing c n)
-    (subst (λ m. m ≤ capacity) (sym (finish_length (suc c.finished) n c.places)) fits.0, λ f. absurd (true≢false (sym f ∙ chosen.not_full))))
+    arrive_all_fits capacity t.weights.lighter (arrivals t (seen n p) (finishing c n).places) (finishing c n)
+    (record {
+      within = subst (λ m. m ≤ capacity) (sym (finish_length (suc c.finished) n c.places)) fits.within;
+      taken = λ f. absurd (true≢false (sym f ∙ chosen.not_full));
+    }))
 
 pub fits_steps : (t : Task) → Sound t → (capacity n : ℕ) (c : Chart) → Inv t c → Fits capacity c → Fits capacity (steps t capacity n c)
 unfolding steps
@@ -33,12 +39,6 @@ fits_steps t s capacity (suc n) c inv fits =
 
 -- STOPPING
 
-shut_done : (ps : List Place) → ((q : Place) → In q ps → is_open q.finished ≡ false) → length ps ≤ done ps
-shut_done [] shut = omega arith
-shut_done (p ∷ ps) shut =
-    let rest : length ps ≤ done ps = shut_done ps (λ q i. shut q (inr i)) in
-    subst (λ b. suc (length ps) ≤ elim b as (λ _. ℕ) [ true ↦ done ps | false ↦ suc (done ps) ]) (sym (shut p (inl refl))) (omega arith)
-
 -- nothing is open
 abbrev pub Shut : Chart → Type 0
 Shut c = (q : Place) → In q c.places → is_open q.finished ≡ false
@@ -46,27 +46,42 @@ Shut c = (q : Place) → In q c.places → is_open q.finished ≡ false
 pub stopped_means : (t : Task) → Sound t → (c : Chart) → Inv t c → stopped t c ≡ true → (c.full ≡ true) ⊎ Shut c
 stopped_means t s c inv = go c.full refl
   where
-    found : (o : Option Candidate) → Finds t.weights 0 c.places o → elim o as (λ _. Bool) [ None ↦ true | Some k ↦ false ] ≡ true → (c.full ≡ true) ⊎ Shut c
+    found : (o : Option Standing) → Finds t.weights s.weighing c.places (inv_coded t s c inv) o → is_none o ≡ true → (c.full ≡ true) ⊎ Shut c
     found None h e = inr h
     found (Some k) h e = absurd (false≢true e)
 
-    go : (b : Bool) → c.full ≡ b →
-        elim b as (λ _. Bool) [ true ↦ true | false ↦ elim (lightest_open t.weights.lighter c.places) [ None ↦ true | Some k ↦ false ] ] ≡ true →
-        (c.full ≡ true) ⊎ Shut c
+    go : (b : Bool) → c.full ≡ b → (b || is_none (lightest_open t.weights.lighter c.places)) ≡ true → (c.full ≡ true) ⊎ Shut c
     go true f e = inl f
-    go false f e = found (lightest_open t.weights.lighter c.places) (lightest_finds t.weights s.weighing 0 c.places (inv_coded t s c inv)) e
+    go false f e = found (lightest_open t.weights.lighter c.places) (lightest_finds t.weights s.weighing c.places (inv_coded t s c inv)) e
 
-pub stopped_none : (t : Task) (c : Chart) → lightest_open t.weights.lighter c.places ≡ None → stopped t c ≡ true
-stopped_none t c h = go c.full
+-- where nothing is open, none is found
+none_found : (lighter : ℕ → ℕ → Bool) (c : Chart) → Shut c → is_none (lightest_open lighter c.places) ≡ true
+none_found lighter c shut = go (lightest_open lighter c.places) refl
   where
-    go : (b : Bool) → elim b as (λ _. Bool) [ true ↦ true | false ↦ elim (lightest_open t.weights.lighter c.places) [ None ↦ true | Some k ↦ false ] ] ≡ true
-    go true = refl
-    go false = ap (λ (o : Option Candidate). elim o as (λ _. Bool) [ None ↦ true | Some k ↦ false ]) h
+    go : (o : Option Standing) → lightest_open lighter c.places ≡ o → is_none o ≡ true
+    go None e = refl
+    go (Some s) e =
+        let it = lightest_stands lighter c.places s e in
+        absurd (true≢false (sym it.still_open ∙ shut it.place (nth_in c.places s.at it.place it.there)))
 
 pub means_stopped : (t : Task) (c : Chart) → (c.full ≡ true) ⊎ Shut c → stopped t c ≡ true
-means_stopped t c (inl f) =
-    ap (λ b. elim b as (λ _. Bool) [ true ↦ true | false ↦ elim (lightest_open t.weights.lighter c.places) [ None ↦ true | Some k ↦ false ] ]) f
-means_stopped t c (inr shut) = stopped_none t c (all_done t.weights.lighter 0 c.places (shut_done c.places shut))
+means_stopped t c (inl f) = ap (λ b. b || is_none (lightest_open t.weights.lighter c.places)) f
+means_stopped t c (inr shut) = go c.full
+  where
+    go : (b : Bool) → (b || is_none (lightest_open t.weights.lighter c.places)) ≡ true
+    go true = refl
+    go false = none_found t.weights.lighter c shut
+
+-- it refuses a step, by the same number as a step does
+pub stopped_refuses : (t : Task) (capacity : ℕ) (c : Chart) → stopped t c ≡ true → step_answer t capacity c ≡ Err (stop_number c)
+stopped_refuses t capacity c = go c.full (lightest_open t.weights.lighter c.places)
+  where
+    go : (b : Bool) (o : Option Standing) → (b || is_none o) ≡ true →
+        elim b as (λ _. Result ℕ ℕ) [ true ↦ Err 10 | false ↦ elim o as (λ _. Result ℕ ℕ) [ None ↦ Err 11 | Some s ↦ counted (completed t capacity c s) ] ]
+        ≡ Err (elim b as (λ _. ℕ) [ true ↦ 10 | false ↦ 11 ])
+    go true o h = refl
+    go false None h = refl
+    go false (Some s) h = absurd (false≢true h)
 
 chosen_goes_on : (t : Task) (s : Sound t) (c : Chart) → Inv t c → (n : ℕ) (p : Place) → Chosen t c n p → stopped t c ≡ true → ⊥
 chosen_goes_on t s c inv n p chosen h = go (stopped_means t s c inv h)
@@ -94,7 +109,7 @@ step_done t s capacity c inv =
     step_cases t s capacity c (inv_coded t s c inv) (λ d. (stopped t c ≡ true) ⊎ (done d.places ≡ suc (done c.places)))
     (λ quiet. inl (means_stopped t c quiet))
     (λ n p chosen. inr (
-    arrive_all_done capacity t.weights.lighter (arrivals t (record { at = n; edge = p.edge; weight = p.weight }) (finishing c n).places) (finishing c n)
+    arrive_all_done capacity t.weights.lighter (arrivals t (seen n p) (finishing c n).places) (finishing c n)
     ∙ finish_done (suc c.finished) n c.places p chosen.there chosen.still_open))
 
 steps_done : (t : Task) → Sound t → (capacity n : ℕ) (c : Chart) → Inv t c →
@@ -111,13 +126,21 @@ steps_done t s capacity (suc n) c inv =
     go (inr h) (inl later) = inl later
     go (inr one_more) (inr later) = inr (omega arith)
 
+-- where as many edges are finished as there are places, nothing is open
+done_shut : (c : Chart) → length c.places ≤ done c.places → Shut c
+done_shut c full q i = go (is_open q.finished) refl
+  where
+    go : (b : Bool) → is_open q.finished ≡ b → b ≡ false
+    go true opened = let left = open_left c.places q i opened in absurd (omega arith)
+    go false shut = refl
+
 pub stops : (t : Task) → Sound t → (capacity : ℕ) (c : Chart) → Inv t c → Fits capacity c → stopped t (steps t capacity capacity c) ≡ true
 stops t s capacity c inv fits = go (steps_done t s capacity capacity c inv)
   where
     all : capacity + done c.places ≤ done (steps t capacity capacity c).places → length (steps t capacity capacity c).places ≤ done (steps t capacity capacity c).places
-    all h = let kept : length (steps t capacity capacity c).places ≤ capacity = (fits_steps t s capacity capacity c inv fits).0 in omega arith
+    all h = let kept = (fits_steps t s capacity capacity c inv fits).within in omega arith
 
     go : (stopped t (steps t capacity capacity c) ≡ true) ⊎ (capacity + done c.places ≤ done (steps t capacity capacity c).places) →
         stopped t (steps t capacity capacity c) ≡ true
     go (inl h) = h
-    go (inr h) = stopped_none t (steps t capacity capacity c) (all_done t.weights.lighter 0 (steps t capacity capacity c).places (all h))
+    go (inr h) = means_stopped t (steps t capacity capacity c) (inr (done_shut (steps t capacity capacity c) (all h)))

@@ -2,8 +2,8 @@ pub mod Task
 pub mod Derivation
 pub mod Listing
 pub mod Plain
-pub mod Standings
 pub mod Stands
 pub mod Origins
 pub mod Reading
+pub mod Saying
 pub mod Telling

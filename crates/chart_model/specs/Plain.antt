@@ -1,14 +1,16 @@
 -- The plain chart: what opening, steps, settling and questions answer and leave, place by place. Assumes nothing.
-use Rattle.std.specs.Prelude.{ℕ, zero, suc, Bool, true, false, ◌&&◌, ◌||◌, List, [], ◌∷◌, ◌++◌, length, Some, None, Ok, Err, Option, Result, ◌==◌, nat_eq, nat_le, nat_lt}
-use Rattle.std.specs.List.{slice_get}
-use Rattle.std.specs.Option.{ok_or, option_or, option_to_list}
+use Rattle.std.specs.Prelude.{ℕ, zero, suc, Bool, true, false, ◌&&◌, ◌||◌, not, List, [], ◌∷◌, ◌++◌, length, count_by, fold, position, Some, None, Ok, Err, Option, Result, ◌==◌, nat_eq, nat_le, nat_lt}
+use Rattle.std.specs.List.{slice_get, list_any, enumerate_from}
+use Rattle.std.specs.Option.{ok_or, option_or, option_to_list, is_none}
 use Rattle.weighing.specs.Laws.{Weights}
 use Rattle.grammar.specs.Rules.{Rule}
 use Rattle.lattice.specs.declared.word.Word.{Word}
 use Rattle.chart_model.specs.Task.{Task}
 use Rattle.chart_model.specs.declared.edge.Edge.{Edge}
 use Rattle.chart_model.specs.declared.edge.Edge.TheVariants.{Passive, Active}
+use Rattle.chart_model.specs.declared.origin.Origin.{Origin}
 use Rattle.chart_model.specs.declared.origin.Origin.TheVariants.{Word as FromWord, Empty, First, Next}
+use Rattle.chart_model.specs.declared.phrase.Phrase.{Phrase}
 use Rattle.chart_model.specs.declared.place.Place.{Place}
 use Rattle.chart_model.specs.declared.place.Arrival.{Arrival}
 use Rattle.chart_model.specs.declared.place.Standing.{Standing}
@@ -31,8 +33,14 @@ is_open (Some n) = false
 
 -- how many places are finished
 abbrev pub done : List Place → ℕ
-done [] = 0
-done (p ∷ ps) = elim (is_open p.finished) [ true ↦ done ps | false ↦ suc (done ps) ]
+done ps = count_by (λ p. not (is_open p.finished)) ps
+
+-- the place of an edge
+abbrev pub place_of : Edge → List Place → Option ℕ
+place_of e ps = position (λ p. same_edge p.edge e) ps
+
+abbrev pub holds : Edge → List Place → Bool
+holds e ps = list_any (λ p. same_edge p.edge e) ps
 
 -- a change at one place
 abbrev pub modified : (Place → Place) → ℕ → List Place → List Place
@@ -45,14 +53,37 @@ abbrev pub gathered : {X : Type 0} → (ℕ → X → Option Arrival) → ℕ �
 gathered brings n [] = []
 gathered brings n (x ∷ xs) = option_to_list (brings n x) ++ gathered brings (suc n) xs
 
--- ARRIVALS
+-- PLACES AND ARRIVALS, each made in one way
 
+-- a weight and an origin, brought to an edge
+abbrev pub arriving : Edge → ℕ → Origin → Arrival
+arriving e w o = record { edge = e; weight = w; origin = o }
+
+-- a new edge is open
 abbrev pub fresh : Arrival → Place
 fresh a = record { edge = a.edge; weight = a.weight; origin = a.origin; finished = None }
 
+-- room that no edge has taken
+abbrev pub unused : Place
+unused = fresh (arriving (Passive 0 0 0) 0 (FromWord 0))
+
 -- another weight and origin
 abbrev pub lightened : Arrival → Place → Place
-lightened a p = record { edge = p.edge; weight = a.weight; origin = a.origin; finished = p.finished }
+lightened a p = record p { weight = a.weight; origin = a.origin }
+
+-- the edge finished, with its number
+abbrev pub ended : ℕ → Place → Place
+ended number p = record p { finished = Some number }
+
+-- the edge at place n
+abbrev pub seen : ℕ → Place → Standing
+seen n p = record { at = n; edge = p.edge; weight = p.weight }
+
+-- the same, if it is finished
+abbrev pub standing : ℕ → Place → Option Standing
+standing n p = elim p.finished [ None ↦ None | Some m ↦ Some (seen n p) ]
+
+-- AN ARRIVAL
 
 -- at its edge's place: a lighter weight replaces weight and origin while the edge is open
 abbrev pub improved : (ℕ → ℕ → Bool) → Arrival → Place → Place
@@ -62,10 +93,6 @@ improved lighter a p = elim (is_open p.finished && lighter a.weight p.weight) [ 
 abbrev pub placed : (ℕ → ℕ → Bool) → Arrival → List Place → List Place
 placed lighter a [] = fresh a ∷ []
 placed lighter a (p ∷ ps) = elim (same_edge p.edge a.edge) [ true ↦ improved lighter a p ∷ ps | false ↦ p ∷ placed lighter a ps ]
-
-abbrev pub holds : Edge → List Place → Bool
-holds e [] = false
-holds e (p ∷ ps) = same_edge p.edge e || holds e ps
 
 -- a new edge that finds no place among so many makes the chart full, and nothing arrives at a full chart
 abbrev pub arrive : ℕ → (ℕ → ℕ → Bool) → Chart → Arrival → Chart
@@ -79,22 +106,18 @@ arrive capacity lighter c a =
     ]
 
 abbrev pub arrive_all : ℕ → (ℕ → ℕ → Bool) → Chart → List Arrival → Chart
-arrive_all capacity lighter c [] = c
-arrive_all capacity lighter c (a ∷ later) = arrive_all capacity lighter (arrive capacity lighter c a) later
+arrive_all capacity lighter c as' = fold (arrive capacity lighter) c as'
 
 -- OPENING
 
 -- word number n brings its weight to its symbol over its stretch
 abbrev pub word_brings : Weights → ℕ → Word → Option Arrival
-word_brings ws n w = Some (record { edge = Passive w.symbol w.from w.to; weight = ws.weigh w.mark; origin = FromWord n })
+word_brings ws n w = Some (arriving (Passive w.symbol w.from w.to) (ws.weigh w.mark) (FromWord n))
 
 -- rule number n brings its weight to its left at node i, if it has no right symbols
 abbrev pub empty_brings : Weights → ℕ → ℕ → Rule → Option Arrival
 empty_brings ws i n r =
-    elim r.right [
-      | [] ↦ Some (record { edge = Passive r.left i i; weight = ws.weigh r.mark; origin = Empty n })
-      | x ∷ xs ↦ None
-    ]
+    elim r.right [ [] ↦ Some (arriving (Passive r.left i i) (ws.weigh r.mark) (Empty n)) | x ∷ xs ↦ None ]
 
 -- the same at node i and the nodes after it, so many in all
 abbrev pub nodes_bring : Weights → List Rule → ℕ → ℕ → List Arrival
@@ -114,38 +137,22 @@ opened t capacity = arrive_all capacity t.weights.lighter blank (first_arrivals 
 
 -- A STEP
 
--- a place, and the weight of the open edge there
-pub record Candidate : Type 0 where
-  pub place : ℕ
-  pub weight : ℕ
+-- the lightest open edge so far, or a later one if that is lighter
+abbrev pub lighter_of : (ℕ → ℕ → Bool) → Option Standing → Standing → Option Standing
+lighter_of lighter None s = Some s
+lighter_of lighter (Some best) s = elim (lighter s.weight best.weight) [ true ↦ Some s | false ↦ Some best ]
 
--- an open edge of weight w at place n, or one after it if that is lighter
-abbrev pub lighter_of : (ℕ → ℕ → Bool) → ℕ → ℕ → Option Candidate → Option Candidate
-lighter_of lighter n w None = Some (record { place = n; weight = w })
-lighter_of lighter n w (Some k) = elim (lighter k.weight w) [ true ↦ Some k | false ↦ Some (record { place = n; weight = w }) ]
+-- the lightest so far, with what stands at one place more
+abbrev pub lightest_with : (ℕ → ℕ → Bool) → Option Standing → ℕ × Place → Option Standing
+lightest_with lighter best (n, p) = elim (is_open p.finished) [ true ↦ lighter_of lighter best (seen n p) | false ↦ best ]
 
--- the lightest open edge, at the lowest place among equals; the first place is number n
-abbrev pub lightest_from : (ℕ → ℕ → Bool) → ℕ → List Place → Option Candidate
-lightest_from lighter n [] = None
-lightest_from lighter n (p ∷ ps) =
-    elim (is_open p.finished) [
-      | true ↦ lighter_of lighter n p.weight (lightest_from lighter (suc n) ps)
-      | false ↦ lightest_from lighter (suc n) ps
-    ]
+-- the lightest open edge, at the lowest place among equals
+abbrev pub lightest_open : (ℕ → ℕ → Bool) → List Place → Option Standing
+lightest_open lighter ps = fold (lightest_with lighter) None (enumerate_from 0 ps)
 
-abbrev pub lightest_open : (ℕ → ℕ → Bool) → List Place → Option Candidate
-lightest_open lighter ps = lightest_from lighter 0 ps
-
--- the edge at a place finished, with its number
-abbrev pub ended : ℕ → Place → Place
-ended number p = record { edge = p.edge; weight = p.weight; origin = p.origin; finished = Some number }
-
+-- the edge at a place finished
 abbrev pub finish : ℕ → ℕ → List Place → List Place
 finish number n ps = modified (ended number) n ps
-
--- the finished edge at place n
-abbrev pub standing : ℕ → Place → Option Standing
-standing n p = elim p.finished [ None ↦ None | Some m ↦ Some (record { at = n; edge = p.edge; weight = p.weight }) ]
 
 -- rule n with its first k symbols over a stretch; with all of them, its left symbol
 abbrev pub reached : ℕ → Rule → ℕ → ℕ → ℕ → Edge
@@ -159,7 +166,7 @@ wants right k x = elim (slice_get right k) [ None ↦ false | Some y ↦ nat_eq 
 abbrev pub rule_takes : Weights → ℕ → Rule → ℕ → ℕ → ℕ → ℕ → ℕ → Option Arrival
 rule_takes ws n r b x i j w =
     elim (wants r.right 0 x) [
-      | true ↦ Some (record { edge = reached n r 1 i j; weight = ws.join (ws.weigh r.mark) w; origin = First n b })
+      | true ↦ Some (arriving (reached n r 1 i j) (ws.join (ws.weigh r.mark) w) (First n b))
       | false ↦ None
     ]
 
@@ -170,10 +177,7 @@ rule_brings ws s n r = elim s.edge [ Passive x i j ↦ rule_takes ws n r s.at x 
 -- rule n with k symbols from h, of weight v at place a, takes x up to l, of weight w at place b, if it wants x next
 abbrev pub active_takes : Weights → ℕ → Rule → ℕ → ℕ → ℕ → ℕ → ℕ → ℕ → ℕ → ℕ → Option Arrival
 active_takes ws n r k h a v b x l w =
-    elim (wants r.right k x) [
-      | true ↦ Some (record { edge = reached n r (suc k) h l; weight = ws.join v w; origin = Next a b })
-      | false ↦ None
-    ]
+    elim (wants r.right k x) [ true ↦ Some (arriving (reached n r (suc k) h l) (ws.join v w) (Next a b)) | false ↦ None ]
 
 -- an active edge that ends where a passive one starts takes it
 abbrev pub edge_takes : List Rule → Weights → ℕ → ℕ → Edge → ℕ → ℕ → Edge → Option Arrival
@@ -198,20 +202,19 @@ abbrev pub finishing : Chart → ℕ → Chart
 finishing c n = record { places = finish (suc c.finished) n c.places; full = c.full; finished = suc c.finished }
 
 -- and with all that follows from it
-abbrev pub finished_at : Task → ℕ → Chart → ℕ → Place → Chart
-finished_at t capacity c n p =
-    let d = finishing c n in
-    arrive_all capacity t.weights.lighter d (arrivals t (record { at = n; edge = p.edge; weight = p.weight }) d.places)
+abbrev pub completed : Task → ℕ → Chart → Standing → Chart
+completed t capacity c s = let d = finishing c s.at in arrive_all capacity t.weights.lighter d (arrivals t s d.places)
+
+-- how many edges are finished; 10 at a full chart
+abbrev pub counted : Chart → Result ℕ ℕ
+counted c = elim c.full [ true ↦ Err 10 | false ↦ Ok c.finished ]
 
 -- finishes the lightest open edge; a full chart, and one without open edges, stays as it is
 abbrev pub step : Task → ℕ → Chart → Chart
 step t capacity c =
     elim c.full [
       | true ↦ c
-      | false ↦ elim (lightest_open t.weights.lighter c.places) [
-        | None ↦ c
-        | Some k ↦ elim (slice_get c.places k.place) [ None ↦ c | Some p ↦ finished_at t capacity c k.place p ]
-      ]
+      | false ↦ elim (lightest_open t.weights.lighter c.places) [ None ↦ c | Some s ↦ completed t capacity c s ]
     ]
 
 -- how many edges are then finished; 10 at a full chart and by a step that makes it full, 11 where nothing is open
@@ -219,10 +222,7 @@ abbrev pub step_answer : Task → ℕ → Chart → Result ℕ ℕ
 step_answer t capacity c =
     elim c.full [
       | true ↦ Err 10
-      | false ↦ elim (lightest_open t.weights.lighter c.places) [
-        | None ↦ Err 11
-        | Some k ↦ let d = step t capacity c in elim d.full [ true ↦ Err 10 | false ↦ Ok d.finished ]
-      ]
+      | false ↦ elim (lightest_open t.weights.lighter c.places) [ None ↦ Err 11 | Some s ↦ counted (completed t capacity c s) ]
     ]
 
 -- shut, since a number of steps that is written out would unfold in every proof that sees it
@@ -234,7 +234,11 @@ steps t capacity (suc n) c = steps t capacity n (step t capacity c)
 
 -- no step can change the chart any more: it is full, or nothing is open
 abbrev pub stopped : Task → Chart → Bool
-stopped t c = elim c.full [ true ↦ true | false ↦ elim (lightest_open t.weights.lighter c.places) [ None ↦ true | Some k ↦ false ] ]
+stopped t c = c.full || is_none (lightest_open t.weights.lighter c.places)
+
+-- by which number such a chart refuses a step
+abbrev pub stop_number : Chart → ℕ
+stop_number c = elim c.full [ true ↦ 10 | false ↦ 11 ]
 
 -- steps until one is refused; no chart takes more of them than it has room for edges, and further ones change nothing
 abbrev pub settled : Task → ℕ → Chart → Chart
@@ -248,18 +252,22 @@ carried e [] = None
 carried e (p ∷ ps) =
     elim (same_edge p.edge e) [ true ↦ elim (is_open p.finished) [ true ↦ None | false ↦ Some p.weight ] | false ↦ carried e ps ]
 
--- whether a stretch runs forward, or stays, up to the last node
-abbrev pub is_stretch : ℕ → ℕ → ℕ → Bool
-is_stretch last i j = nat_le i j && nat_le j last
+-- the edge of a phrase
+abbrev pub edge_of : Phrase → Edge
+edge_of p = Passive p.symbol p.from p.to
 
--- the weight of a symbol over a stretch: 7 for no stretch of the lattice, 8 for an edge that is not finished
-abbrev pub working_answer : Task → Chart → ℕ → ℕ → ℕ → Result ℕ ℕ
-working_answer t c x i j = elim (is_stretch t.last i j) [ true ↦ ok_or (carried (Passive x i j) c.places) 8 | false ↦ Err 7 ]
+-- whether the stretch of a phrase runs forward, or stays, up to the last node
+abbrev pub is_within : ℕ → Phrase → Bool
+is_within last p = nat_le p.from p.to && nat_le p.to last
 
--- a settled chart answers likewise, but 10 for an edge that is not finished if it is full, and 9 if it is not
-abbrev pub settled_answer : Task → Chart → ℕ → ℕ → ℕ → Result ℕ ℕ
-settled_answer t c x i j =
-    elim (is_stretch t.last i j) [
-      | true ↦ ok_or (carried (Passive x i j) c.places) (elim c.full [ true ↦ 10 | false ↦ 9 ])
-      | false ↦ Err 7
-    ]
+-- the weight of a phrase: 7 where the lattice has no such stretch, 8 for an edge that is not finished
+abbrev pub working_answer : Task → Chart → Phrase → Result ℕ ℕ
+working_answer t c p = elim (is_within t.last p) [ true ↦ ok_or (carried (edge_of p) c.places) 8 | false ↦ Err 7 ]
+
+-- by which number a settled chart refuses an edge that is not finished: 10 if it is full, and 9 if it is not
+abbrev pub missing_number : Chart → ℕ
+missing_number c = elim c.full [ true ↦ 10 | false ↦ 9 ]
+
+-- a settled chart answers likewise
+abbrev pub settled_answer : Task → Chart → Phrase → Result ℕ ℕ
+settled_answer t c p = elim (is_within t.last p) [ true ↦ ok_or (carried (edge_of p) c.places) (missing_number c) | false ↦ Err 7 ]

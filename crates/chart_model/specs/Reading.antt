@@ -4,14 +4,14 @@ use Rattle.std.specs.List.{slice_get}
 use Rattle.chart_model.specs.Task.{Task}
 use Rattle.chart_model.specs.Derivation.{Tree, tree_weight}
 use Rattle.chart_model.specs.Listing.{tree_nodes, headed, word_node}
-use Rattle.chart_model.specs.Plain.{Chart, settled_answer}
-use Rattle.chart_model.specs.Standings.{place_of}
+use Rattle.chart_model.specs.Plain.{Chart, place_of, edge_of, settled_answer}
 use Rattle.chart_model.specs.Stands.{Carries, Reached}
 use Rattle.chart_model.specs.declared.edge.Edge.{Edge}
 use Rattle.chart_model.specs.declared.edge.Edge.TheVariants.{Passive, Active}
 use Rattle.chart_model.specs.declared.origin.Origin.{Origin}
 use Rattle.chart_model.specs.declared.origin.Origin.TheVariants.{Word as FromWord, Empty, First, Next}
 use Rattle.chart_model.specs.declared.node.Node.{Node}
+use Rattle.chart_model.specs.declared.phrase.Phrase.{Phrase}
 use Rattle.chart_model.specs.declared.place.Place.{Place}
 
 -- the rule of an active edge; 0 for a passive one, which is never asked for
@@ -46,8 +46,8 @@ reading ps e = elim (place_of e ps) [ None ↦ [] | Some n ↦ reading_at ps n ]
 -- of the weight that it carries
 abbrev pub LawOfReadings : Task → Type 0
 LawOfReadings t =
-    (c : Chart) → Reached t c → (x i j w : ℕ) → Carries c (Passive x i j) w →
-    (d : Tree t x i j) × (tree_weight d ≡ w) × (tree_nodes d ≡ reading c.places (Passive x i j))
+    (c : Chart) → Reached t c → (p : Phrase) (w : ℕ) → Carries c (edge_of p) w →
+    (d : Tree t p.symbol p.from p.to) × (tree_weight d ≡ w) × (tree_nodes d ≡ reading c.places (edge_of p))
 
 -- WRITTEN INTO A LIST
 
@@ -57,15 +57,16 @@ over [] before = before
 over (n ∷ ns) [] = []
 over (n ∷ ns) (b ∷ before) = n ∷ over ns before
 
--- how many nodes the reading has: refused as a question is, and with 12 if the list has no room for all
-abbrev pub reading_answer : Task → Chart → ℕ → ℕ → ℕ → ℕ → Result ℕ ℕ
-reading_answer t c x i j room =
-    elim (settled_answer t c x i j) [
-      | Ok w ↦ let ns = reading c.places (Passive x i j) in elim (nat_le (length ns) room) [ true ↦ Ok (length ns) | false ↦ Err 12 ]
-      | Err number ↦ Err number
-    ]
+-- how many nodes are written, where there is room for all; 12 where there is not
+abbrev pub fitting : ℕ → List Node → Result ℕ ℕ
+fitting room ns = elim (nat_le (length ns) room) [ true ↦ Ok (length ns) | false ↦ Err 12 ]
+
+-- how many nodes the reading of a phrase has: refused as a question is, and with 12 if the list has no room for all
+abbrev pub reading_answer : Task → Chart → Phrase → ℕ → Result ℕ ℕ
+reading_answer t c p room =
+    elim (settled_answer t c p) [ Ok w ↦ fitting room (reading c.places (edge_of p)) | Err number ↦ Err number ]
 
 -- what the list is then: a refusal as a question's leaves it
-abbrev pub reading_list : Task → Chart → ℕ → ℕ → ℕ → List Node → List Node
-reading_list t c x i j before =
-    elim (settled_answer t c x i j) [ Ok w ↦ over (reading c.places (Passive x i j)) before | Err number ↦ before ]
+abbrev pub reading_list : Task → Chart → Phrase → List Node → List Node
+reading_list t c p before =
+    elim (settled_answer t c p) [ Ok w ↦ over (reading c.places (edge_of p)) before | Err number ↦ before ]

@@ -1,9 +1,9 @@
 -- The law of the lightest: what a chart says of derivations. Assumes nothing.
-use Rattle.std.specs.Prelude.{◌≡◌, ℕ, ◌<◌, true, false, List, [], ◌∷◌, length, Some, None}
-use Rattle.std.specs.List.{slice_get}
+use Rattle.std.specs.Prelude.{◌≡◌, ℕ, ◌<◌, ◌≤◌, true, false, List, length, Some, None}
+use Rattle.std.specs.List.{AllByRecursion, IsDistinct}
 use Rattle.chart_model.specs.Task.{Task}
 use Rattle.chart_model.specs.Derivation.{Derives, weight_of, LiesWithin}
-use Rattle.chart_model.specs.Plain.{Chart, opened, step, steps, stopped, settled, carried, same_edge}
+use Rattle.chart_model.specs.Plain.{Chart, opened, step, stopped, settled, carried, same_edge}
 use Rattle.chart_model.specs.declared.edge.Edge.{Edge}
 
 -- the edge is finished, and carries this weight
@@ -30,19 +30,9 @@ pub record Stands (t : Task) (c : Chart) : Type 0 where
   -- no unfinished edge has a derivation lighter than a finished edge
   pub in_order : (e f : Edge) (w : ℕ) → Unfinished c e → Carries c f w → NoneLighter t e w
 
--- edges that all differ
-abbrev pub AllApart : List Edge → Type 0
-AllApart [] = Unit {0}
-AllApart (e ∷ es) = ((f : Edge) (n : ℕ) → slice_get es n ≡ Some f → same_edge e f ≡ false) × AllApart es
-
--- edges that all have derivations
-abbrev pub AllDerived : Task → List Edge → Type 0
-AllDerived t [] = Unit {0}
-AllDerived t (e ∷ es) = Derives t e × AllDerived t es
-
 -- more than so many edges have derivations: there is a longer list of different edges, each with one
 abbrev pub Over : Task → ℕ → Type 0
-Over t most = (es : List Edge) × AllApart es × AllDerived t es × (most < length es)
+Over t most = (es : List Edge) × IsDistinct same_edge es × AllByRecursion (Derives t) es × (most < length es)
 
 -- what a chart with room for so many edges says once it is settled
 pub record Settled (t : Task) (capacity : ℕ) (c : Chart) : Type 0 where
@@ -57,19 +47,29 @@ pub data Reached (t : Task) : Chart → Type 0 where
   by_opening : (capacity : ℕ) → Reached t (opened t capacity)
   by_step : (capacity : ℕ) {c : Chart} → Reached t c → Reached t (step t capacity c)
 
--- the chart of one capacity after so many steps
-abbrev pub after : Task → ℕ → ℕ → Chart
-after t capacity n = steps t capacity n (opened t capacity)
+-- the chart keeps to room for so many edges, and is full only where all of it is taken
+pub record Fits (capacity : ℕ) (c : Chart) : Type 0 where
+  pub within : length c.places ≤ capacity
+  pub taken : c.full ≡ true → capacity ≤ length c.places
+
+-- the chart is led to, fits room for so many edges, and takes no step any more
+pub record Rests (t : Task) (capacity : ℕ) (c : Chart) : Type 0 where
+  pub reached : Reached t c
+  pub fits : Fits capacity c
+  pub stopped : stopped t c ≡ true
 
 -- THE LAW, for every grammar, lattice and weighing
 pub record LawOfTheLightest (t : Task) : Type 0 where
   -- every chart that opening and steps lead to stands
   pub stands : (c : Chart) → Reached t c → Stands t c
-  -- in particular after any number of steps at one capacity
-  pub reached : (capacity n : ℕ) → Reached t (after t capacity n)
-  -- a chart that takes no more steps is settled
-  pub is_settled : (capacity n : ℕ) → stopped t (after t capacity n) ≡ true → Settled t capacity (after t capacity n)
+  -- one that takes no more steps is settled, whatever room each call had, as far as it fits in the end
+  pub is_settled : (capacity : ℕ) (c : Chart) → Rests t capacity c → Settled t capacity c
+  -- where each call has the same room, it fits
+  pub opening_fits : (capacity : ℕ) → Fits capacity (opened t capacity)
+  pub step_fits : (capacity : ℕ) (c : Chart) → Reached t c → Fits capacity c → Fits capacity (step t capacity c)
   -- settling ends: by as many steps as there is room for edges, no step changes the chart any more
-  pub ends : (capacity n : ℕ) → stopped t (settled t capacity (after t capacity n)) ≡ true
+  pub ends : (capacity : ℕ) (c : Chart) → Reached t c → Fits capacity c → stopped t (settled t capacity c) ≡ true
+  -- and leads to a chart that steps lead to
+  pub settling : (capacity : ℕ) (c : Chart) → Reached t c → Reached t (settled t capacity c)
   -- only edges within the lattice have derivations
   pub within : (e : Edge) → Derives t e → LiesWithin t.last e

@@ -2,8 +2,8 @@
 // A stretch is written out, from a node to a node, and is no type of its own: definitions and laws speak of its two ends one
 // by one, as joining edges does.
 
-// A passive edge is a symbol over a stretch, from a node to a node.
-// An active edge is a rule with its first `seen` right symbols, at least one and not all of them, over a stretch.
+/// A passive edge is a symbol over a stretch, from a node to a node.
+/// An active edge is a rule with its first `seen` right symbols, at least one and not all of them, over a stretch.
 #[derive(Clone, Copy, PartialEq, Eq, Debug)]
 pub enum Edge {
     Passive {

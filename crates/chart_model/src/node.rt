@@ -9,7 +9,7 @@ pub enum Kind {
     Rule,
 }
 
-// A default node stands in room that no node has taken yet.
+/// A default node stands in room that no node has taken yet.
 #[derive(Clone, Copy, Default, PartialEq, Eq, Debug)]
 pub struct Node {
     pub kind: Kind,

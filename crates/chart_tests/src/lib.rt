@@ -1,4 +1,4 @@
-// Tests of charts that run over grammars, lattices and weighings of all kinds.
+// Tests of charts that run, over grammars and lattices of several kinds.
 #![tactic(auto)]
 
 #[cfg(test)]

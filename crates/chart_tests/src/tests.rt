@@ -1,10 +1,10 @@
 // Readings: a loop, empties, lists that are too short, and refusals.
-use chart::phrase::Phrase;
 use chart::read::{Listed, read};
 use chart::refusal::{ReadingRefusal, SettledRefusal};
 use chart::setting::Setting;
 use chart::working::WorkingChart;
 use chart_model::node::{Kind, Node};
+use chart_model::phrase::Phrase;
 use grammars::checked::CheckedRules;
 use grammars::count::{CountGrammar, LINE};
 use grammars::list::RuleList;

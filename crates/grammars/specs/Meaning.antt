@@ -3,13 +3,17 @@ use Rattle.std.specs.Prelude.{List}
 use Rattle.grammar.specs.declared.Grammar.{Ghosts}
 use Rattle.grammar.specs.Rules.{Rule, Limits}
 use Rattle.grammars.specs.declared.list.RuleList.{RuleList}
+use Rattle.grammars.specs.declared.rule.RuleRecord.{RuleRecord}
 use Rattle.grammars.specs.declared.surcharge.Surcharge.{Surcharge}
 use Rattle.grammars.specs.Records.{rules_of, records_limits}
 use Rattle.grammars.specs.Surcharges.{surcharged, surcharged_limits}
 
--- the rules of the records that a rule list was made of
+-- the records that a rule list was made of, and their rules
+abbrev pub listed_records : RuleList → List RuleRecord
+listed_records list = list.checked.records.now
+
 abbrev pub listed_rules : RuleList → List Rule
-listed_rules list = rules_of list.checked.records.now
+listed_rules list = rules_of (listed_records list)
 
 pub listed_keeps : (list : RuleList) → Limits (listed_rules list)
 listed_keeps list = records_limits list.checked.records.now list.checked.few list.checked.within

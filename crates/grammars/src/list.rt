@@ -16,10 +16,11 @@ pub struct RuleList<'a> {
 }
 
 impl<'a> RuleList<'a> {
-    ghost use Rattle.grammars.specs.Meaning.{listed_rules};
+    ghost use Rattle.grammars.specs.Meaning.{listed_records, listed_rules};
 
     /// The grammar of checked rules. Nothing is refused.
     pub fn new(checked: CheckedRules<'a>) -> Self
+        ensures records { listed_records result ≡ checked.entry.records.now }
         ensures rules { listed_rules result ≡ rules_of checked.entry.records.now }
     {
         RuleList { checked }

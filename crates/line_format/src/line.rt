@@ -8,7 +8,9 @@ use lattice::word::Word;
 
 // The word that four fields write, if each is a number in its range.
 fn word_of(from: &[u8], to: &[u8], symbol: &[u8], mark: &[u8]) -> Option<Word>
-    ensures { result ≡ word_of (number_of 255 from.now) (number_of 255 to.now) (number_of 255 symbol.now) (number_of 65535 mark.now) }
+    ensures { result
+        ≡ word_of (number_of 255 from.now) (number_of 255 to.now) (number_of 255 symbol.now)
+        (number_of 65535 mark.now) }
 {
     Some(Word {
         from: small_number(from)?,

@@ -17,7 +17,9 @@ fn starts(text: &[u8]) -> bool
 // The number that digits write, if it has 16 bits.
 fn digits(text: &[u8]) -> Option<u16>
     requires { starts text.now ≡ true }
-    ensures { result ≡ then_some (all_ascii_digits text.now && nat_le (digits_value 10 text.now) 65535) (digits_value 10 text.now) }
+    ensures { result
+        ≡ then_some (all_ascii_digits text.now && nat_le (digits_value 10 text.now) 65535)
+        (digits_value 10 text.now) }
 {
     from_utf8(text).ok()?.parse().ok()
 }

@@ -10,13 +10,13 @@ use crate::split::split_once;
 use arrayvec::ArrayVec;
 use lattice::word::Word;
 
-// No text has more lines than this.
+/// No text has more lines than this.
 pub const MOST_LINES: usize = 128;
 
-// What follows so many bytes of a text does not change what it says.
+/// What follows so many bytes of a text does not change what it says.
 pub const ENOUGH_BYTES: usize = 2305;
 
-// The length of text that is enough to decide what it says.
+/// The length of text that is enough to decide what it says.
 pub fn needed_bytes() -> usize
     ensures { result ≡ enough }
 {
@@ -32,7 +32,7 @@ fn first_line(text: &[u8]) -> (&[u8], &[u8])
     split_once(text, b'\n').unwrap_or((text, &[]))
 }
 
-// The words that a text writes.
+/// The words that a text writes.
 pub fn read_words(text: &[u8]) -> Result<ArrayVec<Word, MOST_LINES>, FormFault>
     ensures answers { Answers text.now result }
     ensures decided { Decided (λ t. Answers t result) text.now }

@@ -6,7 +6,7 @@ ghost use Rattle.records.specs.Faults.{TellsRefusal};
 use crate::fault::{ListFault, RecordFault};
 use crate::{Record, check_records};
 
-// Records that were checked.
+/// Records that were checked.
 #[derive(Drop)]
 pub struct Checked<'a, R: Record> {
     pub records: &'a [R],
@@ -15,9 +15,10 @@ pub struct Checked<'a, R: Record> {
 }
 
 impl<'a, R: Record> Checked<'a, R> {
-    // Checks a list of records.
+    /// Checks a list of records.
     pub fn new(records: &'a [R]) -> Result<Self, ListFault<R::Fault>>
-        ensures refused { TellsRefusal R.MOST R.Fault.TOO_MANY R.Fault.number R.refusal records.now result }
+        ensures refused { TellsRefusal R.MOST R.Fault.TOO_MANY R.Fault.number R.refusal records.now
+            result }
         ensures records { IfOk result (λ checked. checked.records.now ≡ records.now) }
     {
         if records.len() > R::MOST {
@@ -27,10 +28,12 @@ impl<'a, R: Record> Checked<'a, R> {
         Ok(Checked { records })
     }
 
-    // Takes a list of records, or refuses it and keeps the records that it has.
+    /// Takes a list of records, or refuses it and keeps the records that it has.
     pub fn check(&mut self, records: &'a [R]) -> Result<(), ListFault<R::Fault>>
-        ensures refused { TellsRefusal R.MOST R.Fault.TOO_MANY R.Fault.number R.refusal records.now result }
-        ensures records { self.new.records.now ≡ elim result [ Ok _ ↦ records.now | Err _ ↦ self.old.records.now ] }
+        ensures refused { TellsRefusal R.MOST R.Fault.TOO_MANY R.Fault.number R.refusal records.now
+            result }
+        ensures records { self.new.records.now
+            ≡ elim result [ Ok _ ↦ records.now | Err _ ↦ self.old.records.now ] }
     {
         *self = Checked::new(records)?;
         Ok(())

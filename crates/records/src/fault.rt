@@ -4,14 +4,14 @@ ghost use Rattle.records.specs.Faults.{list_told};
 
 use crate::numbered::Numbered;
 
-// A fault of a record also knows by which number a list of too many such records is refused.
+/// A fault of a record also knows by which number a list of too many such records is refused.
 pub trait RecordFault: Numbered {
     ghost TOO_MANY: { ℕ };
 
     const TOO_MANY: u8;
 }
 
-// What is wrong with a list of records.
+/// What is wrong with a list of records.
 #[derive(Clone, Copy, PartialEq, Eq, Debug)]
 pub enum ListFault<F> {
     TooMany,

@@ -14,7 +14,7 @@ pub mod numbered;
 
 use fault::{ListFault, RecordFault};
 
-// A record means the number of its refusal, if it is refused, and what it keeps to if it is not.
+/// A record means the number of its refusal, if it is refused, and what it keeps to if it is not.
 pub trait Record: Copy {
     type Fault: RecordFault;
 
@@ -33,9 +33,10 @@ pub trait Record: Copy {
         ensures accepted { OnOk result (within self ≡ true) };
 }
 
-// The check of the records of a list, in order.
+/// The check of the records of a list, in order.
 pub fn check_records<R: Record>(records: &[R]) -> Result<(), ListFault<R::Fault>>
-    ensures refused { option_map (list_told R.Fault.TOO_MANY R.Fault.number) (result_err result) ≡ first_refusal R.refusal 0 records.now }
+    ensures refused { option_map (list_told R.Fault.TOO_MANY R.Fault.number) (result_err result)
+        ≡ first_refusal R.refusal 0 records.now }
     ensures accepted { OnOk result (list_all R.within records.now ≡ true) }
 {
     for (at, item) in records.iter().enumerate() {

@@ -3,7 +3,7 @@ ghost use Rattle.std.specs.Prelude.{◌≡◌, ℕ};
 
 use std::fmt;
 
-// A refusal means its number. An enum of plain cases casts itself to it, in a body of its own: a cast of a type parameter is no Rust.
+/// A refusal means its number. An enum of plain cases casts itself to it, in a body of its own: a cast of a type parameter is no Rust.
 pub trait Numbered: Copy {
     ghost number: { Self → ℕ };
 
@@ -12,7 +12,7 @@ pub trait Numbered: Copy {
         ensures { result ≡ number self };
 }
 
-// An answer as a program tells it: what it is, or that it is refused, by the number.
+/// An answer as a program tells it: what it is, or that it is refused, by the number.
 #[derive(Drop)]
 pub struct Told<T, N>(pub Result<T, N>);
 
@@ -20,7 +20,10 @@ impl<T: fmt::Display, N: Numbered> fmt::Display for Told<T, N> {
     ghost use Rattle.std.specs.Prelude.{Some, Ok, Err};
     ghost use Rattle.records.specs.Telling.{refused_text};
 
-    ghost output = { λ told. elim told.0 [ Ok answer ↦ T.output answer | Err refusal ↦ Some (refused_text (N.number refusal)) ] };
+    ghost output = { λ told. elim told.0 [
+      | Ok answer ↦ T.output answer
+      | Err refusal ↦ Some (refused_text (N.number refusal))
+    ] };
 
     fn fmt<W: fmt::Write>(&self, f: &mut fmt::Formatter<W>) -> fmt::Result {
         match &self.0 {

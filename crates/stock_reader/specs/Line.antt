@@ -1,5 +1,6 @@
 -- What the line of a text is read as, or the number of its refusal: first its form, then its words, then its derivations. Assumes nothing.
-use Rattle.std.specs.Prelude.{◌≡◌, ℕ, ◌<◌, true, false, List, length, Some, None, Option, Ok, Err, Result, nat_le}
+use Rattle.std.specs.Prelude.{◌≡◌, ⊤, ℕ, ◌<◌, ◌↔◌, ◌⊎◌, true, false, List, length, Some, None, Option, Ok, Err, Result, nat_le}
+use Rattle.std.specs.Result.{result_map_both}
 use Rattle.weighings.specs.Weighings.{sum_weights}
 use Rattle.grammars.specs.Count.{line, count_rules}
 use Rattle.lattice.specs.declared.word.Word.{Word}
@@ -9,18 +10,17 @@ use Rattle.lattices.specs.Heard.{largest_end}
 use Rattle.line_format.specs.Faults.{form_number}
 use Rattle.line_format.specs.Lines.{text_words}
 use Rattle.chart_model.specs.Task.{Task}
-use Rattle.chart_model.specs.Derivation.{Tree, tree_weight, Derives}
+use Rattle.chart_model.specs.Derivation.{tree_weight, Derives}
 use Rattle.chart_model.specs.Listing.{tree_nodes}
-use Rattle.chart_model.specs.Plain.{Chart as PlainChart, opened, settled, settled_answer}
+use Rattle.chart_model.specs.Plain.{Chart as PlainChart, edge_of, settled_answer}
 use Rattle.chart_model.specs.Reading.{reading}
+use Rattle.chart_model.specs.Saying.{TreeOf}
 use Rattle.chart_model.specs.Stands.{Unfinished, NoneLighter, Over}
 use Rattle.chart_model.specs.declared.edge.Edge.{Edge}
-use Rattle.chart_model.specs.declared.edge.Edge.TheVariants.{Passive}
 use Rattle.chart_model.specs.declared.node.Node.{Node}
+use Rattle.chart_model.specs.declared.phrase.Phrase.{Phrase}
+use Rattle.chart.specs.Saying.{whole}
 use Rattle.chart.specs.View.{room}
-use Rattle.chart.specs.declared.refusal.SettledRefusal.TheVariants.{NoStretch, NoDerivation, Full}
-use Rattle.chart.specs.declared.refusal.ReadingRefusal.{ReadingRefusal}
-use Rattle.chart.specs.declared.refusal.ReadingRefusal.TheVariants.{Unanswered, TooShort}
 use Rattle.stock_reader.specs.declared.reading.Reading.{Reading}
 use Rattle.stock_reader.specs.declared.refusal.Refusal.{Refusal}
 use Rattle.stock_reader.specs.declared.refusal.Refusal.TheVariants.{Form, Lattice, Chart}
@@ -30,12 +30,15 @@ abbrev pub line_task : List Word → Task
 line_task ws = record { rules = count_rules; last = largest_end ws; words = ws; weights = sum_weights }
 
 -- a line from the first node to the last
+abbrev pub line_phrase : List Word → Phrase
+line_phrase ws = record { symbol = line; from = 0; to = largest_end ws }
+
 abbrev pub whole_line : List Word → Edge
-whole_line ws = Passive line 0 (largest_end ws)
+whole_line ws = edge_of (line_phrase ws)
 
 -- the chart of these words, settled
 abbrev pub line_chart : List Word → PlainChart
-line_chart ws = settled (line_task ws) room (opened (line_task ws) room)
+line_chart ws = whole (line_task ws)
 
 -- how many nodes a reading has room for
 abbrev pub most_nodes : ℕ
@@ -48,6 +51,10 @@ WeightAndNodes = ℕ × List Node
 abbrev pub told_reading : Reading → WeightAndNodes
 told_reading r = (r.weight, r.nodes.items)
 
+-- an answer as it is told: a reading, or the number of a refusal
+abbrev pub told_line : {E : Type 0} → (E → ℕ) → Result Reading E → Result WeightAndNodes ℕ
+told_line number result = result_map_both told_reading number result
+
 -- nodes as they are told beside their weight; 12 where there is no room for them
 abbrev pub fitting : ℕ → List Node → Result WeightAndNodes ℕ
 fitting w ns = elim (nat_le (length ns) most_nodes) [ true ↦ Ok (w, ns) | false ↦ Err 12 ]
@@ -55,7 +62,7 @@ fitting w ns = elim (nat_le (length ns) most_nodes) [ true ↦ Ok (w, ns) | fals
 -- what a settled chart reads of the line
 abbrev pub line_reading : List Word → Result WeightAndNodes ℕ
 line_reading ws =
-    elim (settled_answer (line_task ws) (line_chart ws) line 0 (largest_end ws)) [
+    elim (settled_answer (line_task ws) (line_chart ws) (line_phrase ws)) [
       | Ok w ↦ fitting w (reading (line_chart ws).places (whole_line ws))
       | Err number ↦ Err number
     ]
@@ -68,22 +75,35 @@ words_reading ws = elim (words_refusal ws) [ None ↦ line_reading ws | Some ref
 abbrev pub text_reading : List ℕ → Result WeightAndNodes ℕ
 text_reading text = elim (text_words text) [ Ok ws ↦ words_reading ws | Err number ↦ Err number ]
 
--- what an answer says of the derivations of the line
-abbrev pub LineSays : List Word → Result Reading ReadingRefusal → Type 0
--- just these nodes are those of a derivation of just this weight, and none is lighter
-LineSays ws (Ok r) = (d : Tree (line_task ws) line 0 (largest_end ws)) × (tree_weight d ≡ r.weight) × (tree_nodes d ≡ r.nodes.items) × NoneLighter (line_task ws) (whole_line ws) r.weight
--- there is a derivation, and none is lighter, but it has more nodes than there is room for
-LineSays ws (Err TooShort) = (d : Tree (line_task ws) line 0 (largest_end ws)) × NoneLighter (line_task ws) (whole_line ws) (tree_weight d) × (most_nodes < length (tree_nodes d))
-LineSays ws (Err (Unanswered NoDerivation)) = (Derives (line_task ws) (whole_line ws) → ⊥) × (Over (line_task ws) room → ⊥)
-LineSays ws (Err (Unanswered Full)) = Unfinished (line_chart ws) (whole_line ws) × Over (line_task ws) room
-LineSays ws (Err (Unanswered NoStretch)) = ⊥
+-- where a text writes words, so of them
+abbrev pub WritesWords : List ℕ → (List Word → Type 0) → Type 0
+WritesWords text So = (ws : List Word) → text_words text ≡ Ok ws → So ws
 
--- the same of the answer for a text, where a text writes these words and they make a lattice
-abbrev pub TextSays : List Word → Result Reading Refusal → Type 0
-TextSays ws (Ok r) = LineSays ws (Ok r)
-TextSays ws (Err (Chart refusal)) = LineSays ws (Err refusal)
-TextSays ws (Err (Form fault)) = ⊥
-TextSays ws (Err (Lattice fault)) = ⊥
+-- where it writes words that make a lattice, so of them
+abbrev pub WritesLattice : List ℕ → (List Word → Type 0) → Type 0
+WritesLattice text So = WritesWords text (λ ws. words_refusal ws ≡ None → So ws)
+
+-- WHAT AN ANSWER SAYS OF DERIVATIONS
+
+abbrev pub LineTree : List Word → Type 0
+LineTree ws = TreeOf (line_task ws) (line_phrase ws)
+
+-- what an answer about the line of these words says, by the numbers of refusals
+pub record LineSays (ws : List Word) (answer : Result WeightAndNodes ℕ) : Type 0 where
+  -- just these nodes are those of a derivation of just this weight, and none is lighter
+  pub read : (w : ℕ) (ns : List Node) → answer ≡ Ok (w, ns) →
+      (d : LineTree ws) × (tree_weight d ≡ w) × (tree_nodes d ≡ ns) × NoneLighter (line_task ws) (whole_line ws) w
+  -- 12: there is a derivation, and none is lighter, but it has more nodes than there is room for
+  pub too_long : answer ≡ Err 12 →
+      (d : LineTree ws) × NoneLighter (line_task ws) (whole_line ws) (tree_weight d) × (most_nodes < length (tree_nodes d))
+  -- 9 exactly where it has no derivation, and no more edges have derivations than there is room for
+  pub no_derivation : (answer ≡ Err 9) ↔ ((Derives (line_task ws) (whole_line ws) → ⊥) × (Over (line_task ws) room → ⊥))
+  -- 10 exactly where it is not finished and more edges have derivations than there is room for
+  pub full : (answer ≡ Err 10) ↔ (Unfinished (line_chart ws) (whole_line ws) × Over (line_task ws) room)
+  -- and no other number
+  pub refusals : (number : ℕ) → answer ≡ Err number → (number ≡ 9) ⊎ ((number ≡ 10) ⊎ (number ≡ 12))
+
+-- THE STAGES OF A TEXT, each of which may refuse it
 
 -- the form of a text is refused by this number
 abbrev pub RefusesForm : Result Reading Refusal → ℕ → Type 0
@@ -98,3 +118,10 @@ RefusesWords (Err (Lattice fault)) refusal = told fault ≡ refusal
 RefusesWords (Err (Form fault)) refusal = ⊥
 RefusesWords (Err (Chart other)) refusal = ⊥
 RefusesWords (Ok r) refusal = ⊥
+
+-- its words make a lattice, and the chart answers
+abbrev pub Charted : Result Reading Refusal → Type 0
+Charted (Ok r) = ⊤
+Charted (Err (Chart refusal)) = ⊤
+Charted (Err (Form fault)) = ⊥
+Charted (Err (Lattice fault)) = ⊥

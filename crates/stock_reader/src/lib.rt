@@ -1,15 +1,16 @@
 // What a text of heard words is read as: the lightest line that they make.
 #![tactic(auto)]
 
-ghost use Rattle.std.specs.Prelude.{◌≡◌, ℕ, List, Some, None, Option, Ok, Err};
-ghost use Rattle.std.specs.Result.{result_map_both};
-ghost use Rattle.lattice.specs.declared.word.Word.{Word};
+ghost use Rattle.std.specs.Prelude.{◌≡◌, ℕ, Some, Option, Err};
 ghost use Rattle.lattice.specs.Checking.{words_refusal};
+ghost use Rattle.lattices.specs.Meaning.{heard_words};
 ghost use Rattle.line_format.specs.Lines.{text_words};
 ghost use Rattle.line_format.specs.Writing.{Decided};
 ghost use Rattle.chart.specs.Refusals.{reading_number};
 ghost use Rattle.stock_reader.specs.Refusals.{refusal_number};
-ghost use Rattle.stock_reader.specs.Line.{told_reading, line_reading, text_reading, LineSays, TextSays, RefusesForm, RefusesWords};
+ghost use Rattle.stock_reader.specs.Line.{told_line, line_reading, text_reading, WritesWords};
+ghost use Rattle.stock_reader.specs.Line.{WritesLattice, LineSays, Charted, RefusesForm};
+ghost use Rattle.stock_reader.specs.Line.{RefusesWords};
 
 pub mod reading;
 pub mod refusal;
@@ -17,11 +18,11 @@ pub mod refusal;
 mod tests;
 
 use arrayvec::ArrayVec;
-use chart::phrase::Phrase;
 use chart::read::read;
 use chart::refusal::ReadingRefusal;
 use chart::setting::Setting;
 use chart_model::node::Node;
+use chart_model::phrase::Phrase;
 use grammars::count::{CountGrammar, LINE};
 use lattice::Lattice;
 use lattice::checked::CheckedWords;
@@ -33,8 +34,8 @@ use weighings::sum::Sum;
 
 // Reads the lightest line over a whole lattice.
 fn read_lattice(lattice: HeardLattice) -> Result<Reading, ReadingRefusal>
-    ensures answer { result_map_both told_reading reading_number result ≡ line_reading lattice.entry.checked.records.now }
-    ensures says { LineSays lattice.entry.checked.records.now result }
+    ensures answer { told_line reading_number result ≡ line_reading (heard_words lattice.entry) }
+    ensures says { LineSays (heard_words lattice.entry) (told_line reading_number result) }
 {
     let line = Phrase {
         symbol: LINE,
@@ -55,13 +56,16 @@ fn read_lattice(lattice: HeardLattice) -> Result<Reading, ReadingRefusal>
     })
 }
 
-// Reads the words of a text, checks them, and reads the lightest line that they make.
+/// Reads the words of a text, checks them, and reads the lightest line that they make. Refused for its form with 13 or 3, for its
+/// words with 1 or 2, and for its derivations with 9, 10 or 12.
 pub fn read_line(text: &[u8]) -> Result<Reading, Refusal>
-    ensures answer { result_map_both told_reading refusal_number result ≡ text_reading text.now }
-    ensures decided { Decided (λ t. result_map_both told_reading refusal_number result ≡ text_reading t) text.now }
-    ensures says { (ws : List Word) → text_words text.now ≡ Ok ws → words_refusal ws ≡ None → TextSays ws result }
+    ensures answer { told_line refusal_number result ≡ text_reading text.now }
+    ensures decided { Decided (λ t. told_line refusal_number result ≡ text_reading t) text.now }
+    ensures says { WritesLattice text.now (λ ws. LineSays ws (told_line refusal_number result)) }
+    ensures charted { WritesLattice text.now (λ _. Charted result) }
     ensures form { (number : ℕ) → text_words text.now ≡ Err number → RefusesForm result number }
-    ensures words { (ws : List Word) (refusal : ℕ × Option ℕ) → text_words text.now ≡ Ok ws → words_refusal ws ≡ Some refusal → RefusesWords result refusal }
+    ensures words { WritesWords text.now (λ ws. (refusal : ℕ × Option ℕ) →
+        words_refusal ws ≡ Some refusal → RefusesWords result refusal) }
 {
     let words = read_words(text)?;
     let lattice = HeardLattice::new(CheckedWords::new(&words)?);

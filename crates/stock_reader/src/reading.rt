@@ -3,7 +3,7 @@ use arrayvec::ArrayVec;
 use chart_model::node::Node;
 use std::fmt;
 
-// How many nodes a reading has room for.
+/// How many nodes a reading has room for.
 pub const MOST_NODES: usize = 256;
 
 #[derive(Drop)]

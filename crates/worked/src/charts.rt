@@ -1,126 +1,102 @@
-// Small charts: without words, with a rule that goes round, with symbols of nothing.
-use crate::case::{Case, shows, told};
-use crate::making::{heard, phrase, rule, ruled, typed, word};
-use crate::tally::Tally;
+// Charts that are stepped, questioned, settled and read.
+use crate::readings::{BLANK, MOST_NODES, shared};
 use chart::setting::Setting;
+use chart::settled::SettledChart;
 use chart::working::WorkingChart;
-use grammars::count::{BOX, CountGrammar, GAP, LINE, ONE, OPEN, TWO};
+use chart_model::node::Node;
+use chart_model::phrase::Phrase;
+use grammar::Grammar;
+use lattice::Lattice;
+use records::numbered::Numbered;
 use std::io;
-use weighings::sum::Sum;
+use telling::case::{Answer, told};
+use telling::teller::{Asks, Row, Teller};
+use weighing::Weighing;
 
-// Tells all cases of this theme.
-pub(crate) fn tell(rt: &impl Print, tally: &mut Tally) -> io::Result<()> {
-    tally.tell(rt, &no_words())?;
-    tally.tell(rt, &round())?;
-    tally.tell(rt, &two_empties())?;
-    tally.tell(rt, &typed_line())
+// What is asked of a chart that takes steps: a step; up to so many steps, of which those are counted that are taken before one is
+// refused; or the weight of a symbol over a stretch.
+#[derive(Clone, Copy)]
+pub(crate) enum Move {
+    Step,
+    Steps(u16),
+    Ask(u8, u8, u8),
 }
 
-// No words, by the stock counts: there is a gap of nothing, and no line.
-fn no_words() -> [Case; 7] {
-    let setting = Setting {
-        grammar: CountGrammar,
-        lattice: heard(&[]),
-        weighing: Sum,
-    };
+// What is asked of a settled chart: the weight of a symbol over a stretch; a reading into so many nodes of a list; or how many nodes of
+// the list agree with others, from one of its nodes and from one of theirs on.
+#[derive(Clone, Copy)]
+pub(crate) enum Final {
+    Weight(u8, u8, u8),
+    Read(u8, u8, u8, usize),
+    Nodes(usize, usize, &'static [Node]),
+}
+
+// A settled chart, and a list for its readings.
+#[derive(Drop)]
+pub(crate) struct Settled<G: Grammar, L: Lattice, W: Weighing> {
+    chart: SettledChart<G, L, W>,
+    nodes: [Node; MOST_NODES],
+}
+
+impl<G: Grammar, L: Lattice, W: Weighing> Asks<WorkingChart<G, L, W>> for Move {
+    fn ask(&self, chart: &mut WorkingChart<G, L, W>) -> Answer {
+        match *self {
+            Move::Step => told(chart.step()),
+            Move::Steps(most) => Ok(u64::from(steps(chart, most))),
+            Move::Ask(symbol, from, to) => told(chart.question(Phrase { symbol, from, to })),
+        }
+    }
+}
+
+// How many steps are taken before one is refused, up to so many.
+fn steps<G: Grammar, L: Lattice, W: Weighing>(chart: &mut WorkingChart<G, L, W>, most: u16) -> u16 {
+    for taken in 0..most {
+        if chart.step().is_err() {
+            return taken;
+        }
+    }
+    most
+}
+
+impl<G: Grammar, L: Lattice, W: Weighing> Asks<Settled<G, L, W>> for Final {
+    fn ask(&self, settled: &mut Settled<G, L, W>) -> Answer {
+        match *self {
+            Final::Weight(symbol, from, to) => {
+                told(settled.chart.question(Phrase { symbol, from, to }))
+            }
+            Final::Read(symbol, from, to, room) => settled.read(Phrase { symbol, from, to }, room),
+            Final::Nodes(at, from, expected) => {
+                let expected = expected.get(from..).unwrap_or(&[]);
+                shared(settled.nodes.get(at..).unwrap_or(&[]), expected)
+            }
+        }
+    }
+}
+
+impl<G: Grammar, L: Lattice, W: Weighing> Settled<G, L, W> {
+    // How many nodes a reading has, written into so much of the list.
+    fn read(&mut self, phrase: Phrase, room: usize) -> Answer {
+        let nodes: &mut [Node] = &mut self.nodes;
+        let room = room.min(nodes.len());
+        match self.chart.reading(phrase, &mut nodes[..room]) {
+            Ok(count) => Ok(count as u64),
+            Err(refusal) => Err(refusal.number()),
+        }
+    }
+}
+
+// Asks a chart what rows say before it is settled, and what others say then.
+pub(crate) fn step_and_settle<P: Print, G: Grammar + Drop, L: Lattice + Drop, W: Weighing + Drop>(
+    teller: &mut Teller<'_, P>,
+    setting: Setting<G, L, W>,
+    before: &[Row<Move>],
+    after: &[Row<Final>],
+) -> io::Result<()> {
     let mut chart = WorkingChart::open(setting);
-    let early = told(chart.question(phrase(GAP, 0, 0)));
-    let first = told(chart.step());
-    let second = told(chart.step());
-    let gap = told(chart.question(phrase(GAP, 0, 0)));
-    let third = told(chart.step());
-    let chart = chart.settle();
-    [
-        shows(
-            "no words: a gap of nothing before the first step",
-            Err(8),
-            early,
-        ),
-        shows("no words: the first step", Ok(1), first),
-        shows("no words: the second step", Err(11), second),
-        shows("no words: the gap after the second step", Ok(0), gap),
-        shows("no words: the third step", Err(11), third),
-        shows(
-            "no words: the gap in the end",
-            Ok(0),
-            told(chart.question(phrase(GAP, 0, 0))),
-        ),
-        shows(
-            "no words: no line",
-            Err(9),
-            told(chart.question(phrase(LINE, 0, 0))),
-        ),
-    ]
-}
-
-// A symbol that derives itself.
-fn round() -> [Case; 3] {
-    let rules = [rule(5, 1, [5, 0, 0, 0], 0), rule(5, 1, [9, 0, 0, 0], 7)];
-    let words = [word(0, 1, 9, 5)];
-    let setting = Setting {
-        grammar: ruled(&rules),
-        lattice: heard(&words),
-        weighing: Sum,
+    teller.tell_all(before, &mut chart)?;
+    let mut settled = Settled {
+        chart: chart.settle(),
+        nodes: [BLANK; MOST_NODES],
     };
-    let chart = WorkingChart::open(setting).settle();
-    let weight = |symbol, from, to| told(chart.question(phrase(symbol, from, to)));
-    [
-        shows(
-            "round and round: the symbol that derives itself",
-            Ok(12),
-            weight(5, 0, 1),
-        ),
-        shows("round and round: the word itself", Ok(5), weight(9, 0, 1)),
-        shows("round and round: not of nothing", Err(9), weight(5, 0, 0)),
-    ]
-}
-
-// A symbol of two symbols, each of nothing: after two steps the nothing and the symbol begun with it are finished, and the whole is still to come.
-fn two_empties() -> [Case; 6] {
-    let rules = [rule(5, 2, [6, 6, 0, 0], 1), rule(6, 0, [0, 0, 0, 0], 2)];
-    let setting = Setting {
-        grammar: ruled(&rules),
-        lattice: typed(b""),
-        weighing: Sum,
-    };
-    let mut chart = WorkingChart::open(setting);
-    let first = told(chart.step());
-    let second = told(chart.step());
-    let early = told(chart.question(phrase(5, 0, 0)));
-    let third = told(chart.step());
-    let weight = told(chart.question(phrase(5, 0, 0)));
-    [
-        shows("two of nothing: the first step", Ok(1), first),
-        shows("two of nothing: the second step", Ok(2), second),
-        shows("two of nothing: after two steps", Err(8), early),
-        shows("two of nothing: the third step", Ok(3), third),
-        shows("two of nothing: after three steps", Ok(5), weight),
-        shows(
-            "two of nothing: the fourth step",
-            Err(11),
-            told(chart.step()),
-        ),
-    ]
-}
-
-// The bytes of "two box, open one", typed: words without doubt, so that only the marks of rules are left.
-fn typed_line() -> [Case; 2] {
-    let setting = Setting {
-        grammar: CountGrammar,
-        lattice: typed(&[TWO, BOX, OPEN, ONE]),
-        weighing: Sum,
-    };
-    let chart = WorkingChart::open(setting).settle();
-    [
-        shows(
-            "typed: two boxes, open one",
-            Ok(9),
-            told(chart.question(phrase(LINE, 0, 4))),
-        ),
-        shows(
-            "typed: its last word",
-            Ok(0),
-            told(chart.question(phrase(ONE, 3, 4))),
-        ),
-    ]
+    teller.tell_all(after, &mut settled)
 }

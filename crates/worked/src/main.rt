@@ -1,36 +1,39 @@
 // Runs worked cases through the calls of the crates, and tells of each whether it comes out as it should.
 #![tactic(auto)]
 
-mod case;
 mod charts;
-mod full;
-mod lines;
+mod checks;
+mod looks;
 mod making;
 mod readings;
-mod refusals;
-mod rule_limits;
 mod runs;
-mod surcharges;
-mod tally;
-mod two_boxes;
-mod weights;
-mod word_limits;
+mod script;
+mod settings;
+mod tables;
+mod texts;
+mod theme;
 
 use std::io;
-use tally::Tally;
+use telling::tally::Tally;
+use telling::teller::Teller;
+use theme::Theme;
+
+// Plays themes, one after the other.
+fn play_all<P: Print>(teller: &mut Teller<'_, P>, themes: &[Theme]) -> io::Result<()> {
+    for theme in themes {
+        theme.play(teller)?;
+    }
+    Ok(())
+}
 
 fn main(rt: HostRuntime) -> io::Result<()> {
-    let mut tally = Tally::default();
-    two_boxes::tell(&rt, &mut tally)?;
-    weights::tell(&rt, &mut tally)?;
-    charts::tell(&rt, &mut tally)?;
-    surcharges::tell(&rt, &mut tally)?;
-    word_limits::tell(&rt, &mut tally)?;
-    rule_limits::tell(&rt, &mut tally)?;
-    refusals::tell(&rt, &mut tally)?;
-    full::tell(&rt, &mut tally)?;
-    runs::tell(&rt, &mut tally)?;
-    readings::tell(&rt, &mut tally)?;
-    lines::tell(&rt, &mut tally)?;
-    println!(rt; "{tally}")
+    let mut teller = Teller {
+        rt: &rt,
+        theme: "",
+        tally: Tally::default(),
+    };
+    for themes in tables::all() {
+        play_all(&mut teller, themes)?;
+    }
+    println!(rt; "{}", teller.tally)
 }

@@ -1,80 +1,148 @@
 // Runs: a list of calls and of questions at the end, which answer as the calls do one by one.
-use crate::case::{Answer, Case, given, shows, told};
-use crate::making::{heard, phrase};
-use crate::tally::Tally;
-use crate::two_boxes::words;
+use crate::making::{phrase, question};
 use chart::call::{Call, FinalQuestion, Question};
+use chart::outcome::Outcome;
 use chart::run::run;
 use chart::setting::Setting;
 use chart::settled::SettledChart;
 use chart::working::WorkingChart;
 use chart_model::edge::Edge;
 use grammar::Grammar;
-use grammars::count::{BOX, CountGrammar, GAP, LINE, NUM, TWO};
 use lattice::Lattice;
-use lattice::word::Word;
-use lattices::heard::HeardLattice;
-use std::io;
+use records::numbered::Numbered;
+use telling::case::{Answer, given, told};
+use telling::teller::Asks;
 use weighing::Weighing;
-use weighings::sum::Sum;
 
-// Tells all cases of this theme.
-pub(crate) fn tell(rt: &impl Print, tally: &mut Tally) -> io::Result<()> {
-    tally.tell(rt, &with_questions())?;
-    tally.tell(rt, &of_few_calls())
+// What is asked of a run: the answer of a call or of a question at the end, by its number; how many edges are finished; whether the chart
+// is full; or the weight of a finished edge.
+#[derive(Clone, Copy)]
+pub(crate) enum Left {
+    Called(usize),
+    Asked(usize),
+    Finished,
+    IsFull,
+    Weight(u8, u8, u8),
 }
 
-const STEP: Call = Call::Step { answer: None };
-
-// A call that asks.
-fn asks(symbol: u8, from: u8, to: u8) -> Call {
-    Call::Question(Question {
-        phrase: phrase(symbol, from, to),
-        answer: None,
-    })
+// How many calls of a run, or questions at its end, answer as they do one by one.
+#[derive(Clone, Copy)]
+pub(crate) enum Alike {
+    Calls,
+    Questions,
 }
 
-// A question for the end.
-fn finally(symbol: u8, from: u8, to: u8) -> FinalQuestion {
-    Question {
-        phrase: phrase(symbol, from, to),
-        answer: None,
+pub(crate) const STEP: Call = Call::Step { answer: None };
+
+// No run has more calls than this, or more questions at the end.
+const MOST_CALLS: usize = 80;
+
+const MOST_QUESTIONS: usize = 4;
+
+// A run: its calls and its questions with their answers, and what it leaves.
+#[derive(Drop)]
+pub(crate) struct Ran<G: Grammar, L: Lattice, W: Weighing> {
+    calls: [Call; MOST_CALLS],
+    questions: [FinalQuestion; MOST_QUESTIONS],
+    outcome: Outcome<G, L, W>,
+}
+
+// How many calls and questions answer alike.
+#[derive(Clone, Copy)]
+pub(crate) struct Counts {
+    calls: u64,
+    questions: u64,
+}
+
+// Calls to be made: so many steps, and then others.
+fn calls_to_make(steps: usize, calls: &[Call]) -> [Call; MOST_CALLS] {
+    let mut room = [STEP; MOST_CALLS];
+    for n in 0..MOST_CALLS {
+        if n >= steps
+            && let Some(call) = calls.get(n - steps)
+        {
+            room[n] = *call;
+        }
     }
+    room
 }
 
-// The first five steps finish the gaps of nothing, and the sixth the word two.
-fn calls() -> [Call; 12] {
-    [
-        asks(GAP, 0, 0),
-        STEP,
-        asks(GAP, 0, 0),
-        STEP,
-        STEP,
-        STEP,
-        STEP,
-        asks(TWO, 0, 1),
-        STEP,
-        asks(TWO, 0, 1),
-        asks(LINE, 4, 0),
-        asks(LINE, 0, 4),
-    ]
+// Questions to be asked.
+fn questions_to_ask(questions: &[FinalQuestion]) -> [FinalQuestion; MOST_QUESTIONS] {
+    let mut room = [question!(0, 0, 0); MOST_QUESTIONS];
+    for n in 0..MOST_QUESTIONS {
+        if let Some(question) = questions.get(n) {
+            room[n] = *question;
+        }
+    }
+    room
 }
 
-// What is asked in the end.
-fn questions() -> [FinalQuestion; 4] {
-    [
-        finally(LINE, 0, 4),
-        finally(NUM, 0, 1),
-        finally(BOX, 0, 1),
-        finally(LINE, 0, 5),
-    ]
+// Makes a run, which settles if there are questions for its end.
+pub(crate) fn make_run<G: Grammar, L: Lattice, W: Weighing>(
+    setting: Setting<G, L, W>,
+    steps: usize,
+    calls: &[Call],
+    questions: Option<&[FinalQuestion]>,
+) -> Ran<G, L, W> {
+    let call_count = steps.saturating_add(calls.len()).min(MOST_CALLS);
+    let mut calls = calls_to_make(steps, calls);
+    let Some(asked) = questions else {
+        return Ran {
+            outcome: run(setting, &mut calls[..call_count], None),
+            calls,
+            questions: questions_to_ask(&[]),
+        };
+    };
+    let question_count = asked.len().min(MOST_QUESTIONS);
+    let mut questions = questions_to_ask(asked);
+    Ran {
+        outcome: run(
+            setting,
+            &mut calls[..call_count],
+            Some(&mut questions[..question_count]),
+        ),
+        calls,
+        questions,
+    }
 }
 
 // The answer that a call was given, if it was given one.
 fn noted(call: &Call) -> Answer {
     match call {
-        Call::Step { answer } => answer.map_or(Err(0), told),
-        Call::Question(question) => question.answer.map_or(Err(0), told),
+        Call::Step {
+            answer: Some(answer),
+        } => told(*answer),
+        Call::Step { answer: None } => Err(0),
+        Call::Question(question) => given_to(question),
+    }
+}
+
+// The answer that a question was given, if it was given one.
+fn given_to<N: Numbered>(question: &Question<N>) -> Answer {
+    match question.answer {
+        Some(answer) => told(answer),
+        None => Err(0),
+    }
+}
+
+impl<G: Grammar, L: Lattice, W: Weighing> Asks<Ran<G, L, W>> for Left {
+    fn ask(&self, ran: &mut Ran<G, L, W>) -> Answer {
+        match *self {
+            Left::Called(n) => match ran.calls.get(n) {
+                Some(call) => noted(call),
+                None => Err(0),
+            },
+            Left::Asked(n) => match ran.questions.get(n) {
+                Some(question) => given_to(question),
+                None => Err(0),
+            },
+            Left::Finished => Ok(u64::from(ran.outcome.finished())),
+            Left::IsFull => Ok(u64::from(ran.outcome.is_full())),
+            Left::Weight(symbol, from, to) => {
+                given(ran.outcome.weight(Edge::Passive { symbol, from, to }))
+            }
+        }
     }
 }
 
@@ -110,86 +178,38 @@ fn questions_alike<G: Grammar, L: Lattice, W: Weighing>(
 ) -> u64 {
     let mut alike: u64 = 0;
     for question in questions {
-        if question.answer == Some(chart.question(question.phrase)) {
+        if told(chart.question(question.phrase)) == given_to(question) {
             alike = alike.saturating_add(1);
         }
     }
     alike
 }
 
-// A run over "two box, open one" with questions at the end.
-fn with_questions() -> [Case; 11] {
-    let words = words();
-    let mut calls = calls();
-    let mut questions = questions();
-    let outcome = run(setting(&words), &mut calls, Some(&mut questions));
-    let mut chart = WorkingChart::open(setting(&words));
-    let alike = calls_alike(&mut chart, &calls);
-    let asked_alike = questions_alike(&chart.settle(), &questions);
-    let asked = |n: usize| questions
-        .get(n)
-        .map_or(Err(0), |question| question.answer.map_or(Err(0), told));
-    let finished = outcome.weight(Edge::from(phrase(LINE, 0, 4)));
-    [
-        shows("run: calls that answer as one by one", Ok(12), Ok(alike)),
-        shows(
-            "run: questions that answer as one by one",
-            Ok(4),
-            Ok(asked_alike),
-        ),
-        shows("run: a gap before the first step", Err(8), noted(&calls[0])),
-        shows("run: the first step", Ok(1), noted(&calls[1])),
-        shows("run: a gap after the first step", Ok(0), noted(&calls[2])),
-        shows(
-            "run: the word two before its step",
-            Err(8),
-            noted(&calls[7]),
-        ),
-        shows("run: the word two after its step", Ok(10), noted(&calls[9])),
-        shows("run: what is no stretch", Err(7), noted(&calls[10])),
-        shows("run: the line in the end", Ok(109), asked(0)),
-        shows("run: a box that was not heard", Err(9), asked(2)),
-        shows("run: the line as a finished edge", Ok(109), given(finished)),
-    ]
+// Makes a run with questions at the end, and the same calls one by one.
+pub(crate) fn one_by_one<G: Grammar + Drop, L: Lattice + Drop, W: Weighing + Drop>(
+    setting: Setting<G, L, W>,
+    calls: &[Call],
+    questions: &[FinalQuestion],
+) -> Counts {
+    let call_count = calls.len().min(MOST_CALLS);
+    let question_count = questions.len().min(MOST_QUESTIONS);
+    let Ran {
+        calls,
+        questions,
+        outcome,
+    } = make_run(setting, 0, calls, Some(questions));
+    let mut chart = WorkingChart::open(outcome.into_setting());
+    Counts {
+        calls: calls_alike(&mut chart, &calls[..call_count]),
+        questions: questions_alike(&chart.settle(), &questions[..question_count]),
+    }
 }
 
-// Runs that do not settle, or make no call, or ask nothing at the end.
-fn of_few_calls() -> [Case; 4] {
-    let words = words();
-    let mut calls = calls();
-    let stepped = run(setting(&words), &mut calls, None);
-    let opened = run(setting(&words), &mut [], None);
-    let settled = run(setting(&words), &mut [], Some(&mut []));
-    let line = Edge::from(phrase(LINE, 0, 4));
-    [
-        shows(
-            "run: edges finished by six steps",
-            Ok(6),
-            Ok(u64::from(stepped.finished())),
-        ),
-        shows(
-            "run: edges finished by no calls",
-            Ok(0),
-            Ok(u64::from(opened.finished())),
-        ),
-        shows(
-            "run: the line after six steps",
-            Err(0),
-            given(stepped.weight(line)),
-        ),
-        shows(
-            "run: the line where nothing is asked in the end",
-            Ok(109),
-            given(settled.weight(line)),
-        ),
-    ]
-}
-
-// What a run is made over.
-fn setting(words: &[Word]) -> Setting<CountGrammar, HeardLattice<'_>, Sum> {
-    Setting {
-        grammar: CountGrammar,
-        lattice: heard(words),
-        weighing: Sum,
+impl Asks<Counts> for Alike {
+    fn ask(&self, counts: &mut Counts) -> Answer {
+        match *self {
+            Alike::Calls => Ok(counts.calls),
+            Alike::Questions => Ok(counts.questions),
+        }
     }
 }

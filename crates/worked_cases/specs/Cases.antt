@@ -12,14 +12,13 @@ use Rattle.lattices.specs.Typed.{typed_words}
 use Rattle.chart_model.specs.Task.{Task}
 use Rattle.chart_model.specs.Derivation.{Tree, word, rule, none, more, tree_weight}
 use Rattle.chart_model.specs.Listing.{node, tree_nodes}
-use Rattle.chart_model.specs.Plain.{Chart, step_answer, settled, working_answer, settled_answer}
+use Rattle.chart_model.specs.Plain.{Chart, opened as opening, step_answer, steps, settled, edge_of, working_answer, settled_answer}
 use Rattle.chart_model.specs.Reading.{reading}
-use Rattle.chart_model.specs.Stands.{after}
-use Rattle.chart_model.specs.declared.edge.Edge.TheVariants.{Passive}
 use Rattle.chart_model.specs.declared.node.Kind.TheVariants.{Word as Heard, Rule as ByRule}
 use Rattle.chart_model.specs.declared.node.Node.{Node}
 use Rattle.chart_model.specs.declared.origin.Origin.{Origin}
 use Rattle.chart_model.specs.declared.origin.Origin.TheVariants.{Word as FromWord, First}
+use Rattle.chart_model.specs.declared.phrase.Phrase.{Phrase}
 
 -- TASKS
 
@@ -55,6 +54,10 @@ two_empties =
 -- one word heard twice, with these marks
 abbrev pub echo : ℕ → ℕ → Task
 echo first second = over_words [] (heard 0 1 9 first ∷ heard 0 1 9 second ∷ []) sum_weights
+
+-- a symbol over a stretch
+abbrev pub about : ℕ → ℕ → ℕ → Phrase
+about symbol from to = record { symbol = symbol; from = from; to = to }
 
 -- DERIVATIONS of "two box open one" by the stock counts, with doubts added up
 
@@ -93,12 +96,12 @@ two_open =
 -- CASES
 
 pub data Case : Type 0 where
-  -- what a settled chart answers about a symbol over a stretch
-  settles : Task → ℕ → ℕ → ℕ → Result ℕ ℕ → Case
+  -- what a settled chart answers about a phrase
+  settles : Task → Phrase → Result ℕ ℕ → Case
   -- which nodes a settled chart reads for it
-  reads : Task → ℕ → ℕ → ℕ → List Node → Case
+  reads : Task → Phrase → List Node → Case
   -- what a working chart answers after so many steps
-  works : Task → ℕ → ℕ → ℕ → ℕ → Result ℕ ℕ → Case
+  works : Task → ℕ → Phrase → Result ℕ ℕ → Case
   -- what the step after so many answers
   steps_on : Task → ℕ → Result ℕ ℕ → Case
   -- where the weights of a settled chart come from, place by place
@@ -111,15 +114,18 @@ pub data Case : Type 0 where
 abbrev pub room : ℕ
 room = 1024
 
--- the chart of a task, settled
+-- the chart of a task after so many steps, and settled
+abbrev pub after : Task → ℕ → Chart
+after t n = steps t room n (opening t room)
+
 abbrev pub final_chart : Task → Chart
-final_chart t = settled t room (after t room 0)
+final_chart t = settled t room (opening t room)
 
 abbrev pub ComesOut : Case → Type 0
-ComesOut (settles t x i j answer) = settled_answer t (final_chart t) x i j ≡ answer
-ComesOut (reads t x i j nodes) = reading (final_chart t).places (Passive x i j) ≡ nodes
-ComesOut (works t n x i j answer) = working_answer t (after t room n) x i j ≡ answer
-ComesOut (steps_on t n answer) = step_answer t room (after t room n) ≡ answer
+ComesOut (settles t p answer) = settled_answer t (final_chart t) p ≡ answer
+ComesOut (reads t p nodes) = reading (final_chart t).places (edge_of p) ≡ nodes
+ComesOut (works t n p answer) = working_answer t (after t n) p ≡ answer
+ComesOut (steps_on t n answer) = step_answer t room (after t n) ≡ answer
 ComesOut (comes_from t origins) = map (λ p. p.origin) (final_chart t).places ≡ origins
 ComesOut (weighs derivation weight) = tree_weight derivation ≡ weight
 ComesOut (amounts a b) = a ≡ b
@@ -127,40 +133,40 @@ ComesOut (amounts a b) = a ≡ b
 abbrev pub cases : List Case
 cases =
     -- two boxes, open one: the lighter of two derivations
-    settles count_line line 0 4 (Ok 109)
+    settles count_line (about line 0 4) (Ok 109)
     ∷ weighs one_open 109
     ∷ weighs two_open 117
-    ∷ reads count_line line 0 4 (tree_nodes one_open)
-    ∷ reads count_line line 0 4 (
+    ∷ reads count_line (about line 0 4) (tree_nodes one_open)
+    ∷ reads count_line (about line 0 4) (
     node ByRule 1 0 4 ∷ node ByRule 0 0 2 ∷ node ByRule 2 0 2 ∷ node ByRule 7 0 1
     ∷ node Heard 0 0 1 ∷ node Heard 1 1 2 ∷ node ByRule 9 2 2 ∷ node ByRule 3 2 4
     ∷ node Heard 2 2 3 ∷ node ByRule 6 3 4 ∷ node Heard 3 3 4 ∷ [])
     -- by the worst mark alone
-    ∷ settles (two_boxes count_rules worst_weights) line 0 4 (Ok 40)
+    ∷ settles (two_boxes count_rules worst_weights) (about line 0 4) (Ok 40)
     -- by the chance that all marks leave
-    ∷ settles (two_boxes count_rules chance_weights) line 0 4 (Ok 2143914145)
+    ∷ settles (two_boxes count_rules chance_weights) (about line 0 4) (Ok 2143914145)
     -- with two parts, each 20 dearer
-    ∷ settles (two_boxes (surcharged part 20 count_rules) sum_weights) line 0 4 (Ok 149)
+    ∷ settles (two_boxes (surcharged part 20 count_rules) sum_weights) (about line 0 4) (Ok 149)
     -- without words there is a gap of nothing, and no line; one step, and then nothing is open
-    ∷ settles no_words gap 0 0 (Ok 0)
-    ∷ settles no_words line 0 0 (Err 9)
+    ∷ settles no_words (about gap 0 0) (Ok 0)
+    ∷ settles no_words (about line 0 0) (Err 9)
     ∷ steps_on no_words 0 (Ok 1)
     ∷ steps_on no_words 1 (Err 11)
     -- round and round is never lighter: 5 comes by its second rule, from the word
-    ∷ settles round 5 0 1 (Ok 12)
+    ∷ settles round (about 5 0 1) (Ok 12)
     ∷ comes_from round (FromWord 0 ∷ First 1 0 ∷ [])
-    ∷ reads round 5 0 1 (node ByRule 1 0 1 ∷ node Heard 0 0 1 ∷ [])
+    ∷ reads round (about 5 0 1) (node ByRule 1 0 1 ∷ node Heard 0 0 1 ∷ [])
     -- the empty symbol, the rule with the first of the two, and then the symbol of both
-    ∷ works two_empties 2 5 0 0 (Err 8)
-    ∷ works two_empties 3 5 0 0 (Ok 5)
-    ∷ reads two_empties 5 0 0 (node ByRule 0 0 0 ∷ node ByRule 1 0 0 ∷ node ByRule 1 0 0 ∷ [])
+    ∷ works two_empties 2 (about 5 0 0) (Err 8)
+    ∷ works two_empties 3 (about 5 0 0) (Ok 5)
+    ∷ reads two_empties (about 5 0 0) (node ByRule 0 0 0 ∷ node ByRule 1 0 0 ∷ node ByRule 1 0 0 ∷ [])
     -- the lighter word counts, and among equals the first
-    ∷ settles (echo 9 4) 9 0 1 (Ok 4)
+    ∷ settles (echo 9 4) (about 9 0 1) (Ok 4)
     ∷ comes_from (echo 9 4) (FromWord 1 ∷ [])
-    ∷ reads (echo 9 4) 9 0 1 (node Heard 1 0 1 ∷ [])
-    ∷ settles (echo 4 4) 9 0 1 (Ok 4)
+    ∷ reads (echo 9 4) (about 9 0 1) (node Heard 1 0 1 ∷ [])
+    ∷ settles (echo 4 4) (about 9 0 1) (Ok 4)
     ∷ comes_from (echo 4 4) (FromWord 0 ∷ [])
-    ∷ reads (echo 4 4) 9 0 1 (node Heard 0 0 1 ∷ [])
+    ∷ reads (echo 4 4) (about 9 0 1) (node Heard 0 0 1 ∷ [])
     -- half a chance, half of a half, and next to none twice
     ∷ amounts (chance_weights.weigh 32768) 1073741824
     ∷ amounts (chance_weights.join 1073741824 1073741824) 536870912

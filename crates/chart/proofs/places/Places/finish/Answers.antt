@@ -1,10 +1,10 @@
-use Rattle.std.proofs.Common.{suc, refl, ap, add-one}
+use Rattle.std.proofs.Common.{suc, ap, add-one}
 use Rattle.chart_model.specs.Plain.{ended}
 use Rattle.chart.proofs.Writing.{wrote}
 use Rattle.chart.proofs.places.Places.finish.Goals as goal
 
-pub returns : goal.returns
-returns c =
+pub returns-clause-view : goal.returns-clause-view
+returns-clause-view c =
     let p = c.args.self.now in
-    rw add-one (ap (λ ps. record { places = ps; full = p.full; finished = suc p.finished })
-    (wrote (ended (suc p.finished)) _ c.args.at p.slots.items c.deref_mut.result.now _ c.deref_mut.ensures.value refl))
+    let changed = rw add-one at c.finish.ensures in
+    rw add-one (ap (λ ps. record { places = ps; full = p.full; finished = suc p.finished }) (wrote (ended (suc p.finished)) _ p.taken c.args.at p.slots _ changed))

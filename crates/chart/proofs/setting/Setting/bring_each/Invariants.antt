@@ -9,10 +9,10 @@ use Rattle.chart.proofs.setting.Setting.bring_each.Given as goal
 
 abbrev pub invariant-loop-n : goal.invariant-loop-n
 invariant-loop-n g l =
-    let lighter = (g.W.Weighing.weights l.self.weighing).lighter in
-    let before = held l.fn.table in
+    let ws = g.W.Weighing.weights l.self.weighing in
+    let before = l.fn.table in
     record {
-      later : Later lighter before (held l.table);
-      rest : (f : ℕ → Option Arrival) → AnyBrought (goal.F-post g l.brings) lighter before l.count (λ c n r. r ≡ f n) →
-          Rest f lighter l.n l.count (held l.table) (arrive_all room lighter before (brought f 0 l.count));
+      later : Later ws (held before) (held l.table);
+      rest : (f : ℕ → Option Arrival) → AnyBrought (goal.F-post g l.brings) ws l.count before (λ c n r. r ≡ f n) →
+          Rest f ws l.count l.n (held l.table) (arrive_all room ws.lighter (held before) (brought f l.count));
     }

@@ -5,5 +5,5 @@ use Rattle.chart.proofs.setting.Setting.take.Goals as goal
 pub overflow_add-seen : goal.overflow_add-seen
 overflow_add-seen g c =
     let grammar = c.args.self.now.grammar in
-    let short = right_short (g.G.Grammar.rules grammar) (g.G.Grammar.limits grammar) c.from.result c.from-2.result c.in_ok-wanted.wanted (sym c.in_ok-wanted.ensures) in
+    let short = right_short (g.G.Grammar.rules grammar) (g.G.Grammar.limits grammar) c.from.result c.from-2.result c.in-Some.symbol (sym c.in-Some.ensures) in
     search rules

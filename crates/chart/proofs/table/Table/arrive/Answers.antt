@@ -7,5 +7,5 @@ pub invariant_of-self : goal.invariant_of-self
 invariant_of-self g c =
     let t = c.args.self.now in
     let lighter = (g.W.Weighing.weights c.args.weighing.now).lighter in
-    let still = subst Kept (sym c.arrive.ensures) (kept_arrive lighter (held t) c.args.arrival (kept t) c.requires) in
-    record { room = still.fits; counted = still.counted; orderly = still.orderly }
+    let still = subst Kept (sym c.arrive.ensures.view) (kept_arrive lighter (held t) c.args.arrival (kept t) c.requires) in
+    record { taken = still.fits.taken; room = c.arrive.ensures.taken; counted = still.counted; orderly = still.orderly }

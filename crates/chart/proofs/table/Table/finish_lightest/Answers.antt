@@ -1,8 +1,8 @@
-use Rattle.std.proofs.Common.{sym, subst}
+use Rattle.std.proofs.Common.{sym, subst, arith}
 use Rattle.chart_model.specs.Plain.{Chart}
 use Rattle.chart.specs.Charts.{held}
 use Rattle.chart.specs.View.{Named}
-use Rattle.chart.proofs.Keeping.{Kept, kept, found}
+use Rattle.chart.proofs.Keeping.{Kept, kept, view_within, found}
 use Rattle.chart.proofs.table.Table.finish_lightest.Goals as goal
 
 pub finish-requires : goal.finish-requires
@@ -10,19 +10,23 @@ finish-requires g c =
     let t = c.args.self.now in
     let lighter = (g.W.Weighing.weights c.args.weighing.now).lighter in
     let f = found lighter (held t) (kept t) _ (sym c.in_ok-lightest.ensures) in
-    rw c.from.ensures (record { within = f.within; numbers = f.left })
+    let long = view_within t.places in
+    let room = t.room in
+    rw c.from.ensures (record { within = omega arith; room = t.room; numbers = f.left })
 
 pub invariant_of-self : goal.invariant_of-self
 invariant_of-self g c =
     let t = c.args.self.now in
     let lighter = (g.W.Weighing.weights c.args.weighing.now).lighter in
     let f = found lighter (held t) (kept t) _ (sym c.in_ok-lightest.ensures) in
-    let still = subst Kept (sym (rw c.from.ensures at c.finish.ensures)) f.kept in
-    record { room = still.fits; counted = still.counted; orderly = still.orderly }
+    let room = t.room in
+    let taken = c.finish.ensures.taken in
+    let still = subst Kept (sym (rw c.from.ensures at c.finish.ensures.view)) f.kept in
+    record { taken = still.fits.taken; room = omega arith; counted = still.counted; orderly = still.orderly }
 
 pub returns-clause-earlier : goal.returns-clause-earlier
 returns-clause-earlier g c =
     let t = c.args.self.now in
     let lighter = (g.W.Weighing.weights c.args.weighing.now).lighter in
     let f = found lighter (held t) (kept t) _ (sym c.in_ok-lightest.ensures) in
-    subst (λ (d : Chart). Named d c.in_ok-lightest.lightest.at) (sym (rw c.from.ensures at c.finish.ensures)) f.named
+    subst (λ (d : Chart). Named d c.in_ok-lightest.lightest.at) (sym (rw c.from.ensures at c.finish.ensures.view)) f.named

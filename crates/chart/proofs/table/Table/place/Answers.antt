@@ -1,18 +1,19 @@
-use Rattle.std.proofs.Common.{rules}
-use Rattle.chart.specs.View.{view}
-use Rattle.chart.proofs.Keeping.{named_within}
-use Rattle.chart.proofs.Finding.{nth_seen}
+use Rattle.std.proofs.Common.{◌∙◌, ap, Some, arith}
+use Rattle.std.proofs.lemmas.List.{get_or-take}
+use Rattle.std.proofs.lemmas.Option.{slice_get-get_or}
+use Rattle.chart.specs.Charts.{held}
+use Rattle.chart.proofs.Keeping.{fits, named_within, view_within}
 use Rattle.chart.proofs.table.Table.place.Goals as goal
 
-pub bounds-deref-from : goal.bounds-deref-from
-bounds-deref-from c =
-    let p = c.args.self.now.places in
-    let within = named_within (view p) c.args.at c.requires in
-    let same = c.deref.ensures in
-    rw c.from.ensures (search rules)
+pub bounds-self-from : goal.bounds-self-from
+bounds-self-from c =
+    let within = named_within (held c.args.self.now) c.args.at c.requires in
+    let most = (fits c.args.self.now).within in
+    rw c.from.ensures (omega arith)
 
 pub returns : goal.returns
 returns c =
     let p = c.args.self.now.places in
-    let within = named_within (view p) c.args.at c.requires in
-    rw c.from.ensures (nth_seen p.slots.items _ c.args.at _ c.deref.ensures.0 within)
+    let within = named_within (held c.args.self.now) c.args.at c.requires in
+    let most = view_within p in
+    rw c.from.ensures (slice_get-get_or (held c.args.self.now).places c.args.at _ within ∙ ap Some (get_or-take p.taken p.slots c.args.at _ (omega arith)))

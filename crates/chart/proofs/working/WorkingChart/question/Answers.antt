@@ -1,17 +1,16 @@
 use Rattle.std.proofs.Common.{rules}
-use Rattle.chart.specs.Charts.{held}
-use Rattle.chart.proofs.Reaching.{sound_of}
-use Rattle.chart.proofs.Saying.{opening_says}
+use Rattle.chart.specs.Working.{chart}
+use Rattle.chart.proofs.Reaching.{sound_of, working_says}
 use Rattle.chart.proofs.working.WorkingChart.question.Goals as goal
 
 pub returns-in_err-edge-clause-says : goal.returns-in_err-edge-clause-says
 returns-in_err-edge-clause-says g c =
     let a = c.args.self.now in
-    let sound = sound_of g.G.Grammar.limits g.L.Lattice.limits g.met.W.Weighing.lawful a.setting in
-    opening_says sound (held a.table) a.from_opening c.args.phrase.symbol c.args.phrase.from c.args.phrase.to c.from_residual.result (search rules)
+    let sound = sound_of g.G.Grammar g.L.Lattice g.W.Weighing g.met.W.Weighing.lawful a.setting in
+    working_says sound (chart a) a.reached c.args.phrase _ (search rules)
 
 pub returns-clause-says : goal.returns-clause-says
 returns-clause-says g c =
     let a = c.args.self.now in
-    let sound = sound_of g.G.Grammar.limits g.L.Lattice.limits g.met.W.Weighing.lawful a.setting in
-    opening_says sound (held a.table) a.from_opening c.args.phrase.symbol c.args.phrase.from c.args.phrase.to c.ok_or-2.result (search rules)
+    let sound = sound_of g.G.Grammar g.L.Lattice g.W.Weighing g.met.W.Weighing.lawful a.setting in
+    working_says sound (chart a) a.reached c.args.phrase _ (search rules)

@@ -1,21 +1,23 @@
-use Rattle.std.proofs.Common.{refl}
-use Rattle.chart.specs.Charts.{task_of, held}
-use Rattle.chart.proofs.Reaching.{sound_of, settle_from, settling_rests}
+use Rattle.std.proofs.Common.{◌≡◌, Err, subst}
+use Rattle.chart_model.specs.Plain.{step_answer, stop_number}
+use Rattle.chart_model.specs.Stands.{Stands, Settled}
+use Rattle.chart.specs.Charts.{task_of}
+use Rattle.chart.specs.View.{room}
+use Rattle.chart.specs.Working.{task, chart}
+use Rattle.chart.proofs.Reaching.{sound_of, rests_refusing, stands_of, settled_of}
 use Rattle.chart.proofs.working.WorkingChart.settle.Goals as goal
-
-pub invariant_of-result : goal.invariant_of-result
-invariant_of-result g c =
-    let a = c.args.self in
-    let t = task_of g.G.Grammar.rules g.L.Lattice.last g.L.Lattice.words g.W.Weighing.weights a.setting in
-    let after = held c.advance_all.new.table in
-    record { from_settling = settle_from t (held a.table) after c.advance_all.ensures a.from_opening }
 
 pub returns : goal.returns
 returns g c =
-    let a = c.args.self in
-    let t = task_of g.G.Grammar.rules g.L.Lattice.last g.L.Lattice.words g.W.Weighing.weights a.setting in
-    let sound = sound_of g.G.Grammar.limits g.L.Lattice.limits g.met.W.Weighing.lawful a.setting in
-    let after = held c.advance_all.new.table in
-    let is = c.advance_all.ensures in
-    let (stands, rests) = settling_rests sound after (settle_from t (held a.table) after is a.from_opening) in
-    record { settled = is; stands = stands; rests = rests; setting = refl }
+    let after = c.exhaust.new.self in
+    let sound = sound_of g.G.Grammar g.L.Lattice g.W.Weighing g.met.W.Weighing.lawful after.setting in
+    let over = task_of g.G.Grammar g.L.Lattice g.W.Weighing in
+    let same = c.exhaust.ensures.setting in
+    let rests = c.exhaust.ensures.stopped in
+    record {
+      settled = c.exhaust.ensures.settled;
+      refuses = subst (λ s. step_answer (over s) room (chart after) ≡ Err (stop_number (chart after))) same (rests_refusing (task after) (chart after) rests);
+      stands = subst (λ s. Stands (over s) (chart after)) same (stands_of sound (chart after) after.reached);
+      rests = subst (λ s. Settled (over s) room (chart after)) same (settled_of sound (chart after) after.reached after.fits rests);
+      setting = same;
+    }

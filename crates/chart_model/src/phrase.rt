@@ -1,0 +1,32 @@
+// Symbols over stretches: what a chart is asked about.
+ghost use Rattle.std.specs.Prelude.{◌≡◌, true, false, Some, None};
+ghost use Rattle.chart_model.specs.Plain.{edge_of, is_within};
+
+use crate::edge::Edge;
+
+/// A symbol over a stretch, from a node to a node of the lattice.
+#[derive(Clone, Copy, PartialEq, Eq, Debug)]
+pub struct Phrase {
+    pub symbol: u8,
+    pub from: u8,
+    pub to: u8,
+}
+
+impl Phrase {
+    /// Its edge, if its stretch runs forward, or stays, up to a last node.
+    pub fn edge_within(self, last: u8) -> Option<Edge>
+        ensures { result
+            ≡ elim (is_within last self) [ true ↦ Some (edge_of self) | false ↦ None ] }
+    {
+        (self.from <= self.to && self.to <= last).then(|| self.into())
+    }
+}
+
+impl From<Phrase> for Edge {
+    ghost from_gives = { λ phrase r. r ≡ edge_of phrase };
+
+    fn from(phrase: Phrase) -> Edge {
+        let Phrase { symbol, from, to } = phrase;
+        Edge::Passive { symbol, from, to }
+    }
+}

@@ -1,0 +1,95 @@
+// What is asked of checks of lists, and of what a refused check leaves.
+use crate::making::{Words, listed};
+use grammars::rule::RuleRecord;
+use lattice::word::Word;
+use lattices::typed::TypedLine;
+use records::Record;
+use records::checked::Checked;
+use records::fault::ListFault;
+use records::numbered::Numbered;
+use telling::case::{Answer, done};
+use telling::teller::Asks;
+
+// How often a word is accepted of so many times, or the place of the first word at fault, if the list is not too long.
+#[derive(Clone, Copy)]
+pub(crate) enum WordCheck {
+    Accepts(usize, Word),
+    FirstBad(&'static [Words]),
+}
+
+// The same of rules.
+#[derive(Clone, Copy)]
+pub(crate) enum RuleCheck {
+    Accepts(usize, RuleRecord),
+    FirstBad(&'static [RuleRecord]),
+}
+
+// Records that are kept, and a list that is too long.
+#[derive(Drop)]
+pub(crate) struct Kept<'a, R: Record> {
+    pub(crate) checked: Checked<'a, R>,
+    pub(crate) too_many: &'a [R],
+}
+
+// A list is checked after others.
+pub(crate) struct Next<R: 'static>(pub(crate) &'static [R]);
+
+// The list that is too long is.
+pub(crate) struct TooMany;
+
+// A line is typed after others.
+pub(crate) struct Bytes(pub(crate) &'static [u8]);
+
+// No list has more records here: one more than a lattice takes.
+const MOST: usize = 129;
+
+fn accepted<R: Record>(records: &[R]) -> Answer {
+    match Checked::new(records) {
+        Ok(checked) => Ok(checked.records.len() as u64),
+        Err(fault) => Err(fault.number()),
+    }
+}
+
+fn first_bad<R: Record>(records: &[R]) -> Answer {
+    match Checked::new(records) {
+        Ok(_) => Ok(0),
+        Err(ListFault::At { at, .. }) => Ok(at as u64),
+        Err(fault) => Err(fault.number()),
+    }
+}
+
+impl Asks<()> for WordCheck {
+    fn ask(&self, _: &mut ()) -> Answer {
+        match *self {
+            WordCheck::Accepts(count, word) => accepted(&[word; MOST][..count.min(MOST)]),
+            WordCheck::FirstBad(rows) => first_bad(&listed(rows)),
+        }
+    }
+}
+
+impl Asks<()> for RuleCheck {
+    fn ask(&self, _: &mut ()) -> Answer {
+        match *self {
+            RuleCheck::Accepts(count, rule) => accepted(&[rule; MOST][..count.min(MOST)]),
+            RuleCheck::FirstBad(rules) => first_bad(rules),
+        }
+    }
+}
+
+impl<'a, R: Record> Asks<Kept<'a, R>> for Next<R> {
+    fn ask(&self, kept: &mut Kept<'a, R>) -> Answer {
+        done(kept.checked.check(self.0))
+    }
+}
+
+impl<'a, R: Record> Asks<Kept<'a, R>> for TooMany {
+    fn ask(&self, kept: &mut Kept<'a, R>) -> Answer {
+        done(kept.checked.check(kept.too_many))
+    }
+}
+
+impl<'a> Asks<TypedLine<'a>> for Bytes {
+    fn ask(&self, line: &mut TypedLine<'a>) -> Answer {
+        done(line.set(self.0))
+    }
+}

@@ -1,0 +1,71 @@
+// What is asked of weighings, grammars and lattices.
+use grammar::Grammar;
+use lattice::Lattice;
+use telling::case::{Answer, given};
+use telling::teller::Asks;
+use weighing::Weighing;
+
+// What a mark weighs, or two weights joined.
+#[derive(Clone, Copy)]
+pub(crate) enum Code {
+    Mark(u16),
+    Join(u64, u64),
+}
+
+// How many rules there are; the mark of a rule; how many right symbols it has; or one of them.
+#[derive(Clone, Copy)]
+pub(crate) enum RuleLook {
+    Count,
+    Mark(usize),
+    Length(usize),
+    Right(usize, usize),
+}
+
+// How many words there are; the last node; or where a word ends, and its symbol.
+#[derive(Clone, Copy)]
+pub(crate) enum WordLook {
+    Count,
+    LastNode,
+    End(usize),
+    Symbol(usize),
+}
+
+impl<W: Weighing> Asks<W> for Code {
+    fn ask(&self, weighing: &mut W) -> Answer {
+        match *self {
+            Code::Mark(mark) => Ok(weighing.weigh(mark)),
+            Code::Join(a, b) => Ok(weighing.join(a, b)),
+        }
+    }
+}
+
+impl<G: Grammar> Asks<G> for RuleLook {
+    fn ask(&self, grammar: &mut G) -> Answer {
+        match *self {
+            RuleLook::Count => Ok(grammar.len() as u64),
+            RuleLook::Mark(rule) => given(grammar.mark(rule)),
+            RuleLook::Length(rule) => match grammar.length(rule) {
+                Some(length) => Ok(length as u64),
+                None => Err(0),
+            },
+            RuleLook::Right(rule, at) => given(grammar.right(rule, at)),
+        }
+    }
+}
+
+impl<L: Lattice> Asks<L> for WordLook {
+    fn ask(&self, lattice: &mut L) -> Answer {
+        match *self {
+            WordLook::Count => Ok(lattice.len() as u64),
+            WordLook::LastNode => Ok(u64::from(lattice.last_node())),
+            WordLook::End(n) => match lattice.word(n) {
+                Some(word) => Ok(u64::from(word.to)),
+                None => Err(0),
+            },
+            WordLook::Symbol(n) => match lattice.word(n) {
+                Some(word) => Ok(u64::from(word.symbol)),
+                None => Err(0),
+            },
+        }
+    }
+}

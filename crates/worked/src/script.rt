@@ -1,0 +1,56 @@
+// What is done over a setting, from opening on.
+use crate::charts::{Final, Move, step_and_settle};
+use crate::looks::{Code, RuleLook};
+use crate::readings::{Listed, read_into};
+use crate::runs::{Alike, Left, make_run, one_by_one};
+use crate::settings::Over;
+use chart::call::{Call, FinalQuestion};
+use chart::setting::Setting;
+use chart::weigh::weigh;
+use chart_model::phrase::Phrase;
+use grammar::Grammar;
+use lattice::Lattice;
+use std::io;
+use telling::case::told;
+use telling::teller::{Row, Teller};
+use weighing::Weighing;
+
+#[derive(Clone, Copy)]
+pub(crate) enum Script {
+    // What is asked of the weighing.
+    Codes(&'static [Row<Code>]),
+    // What is asked of the rules.
+    Rules(&'static [Row<RuleLook>]),
+    // A weight in one call: what the row of this setting says.
+    Weigh(Phrase, &'static Row<Over>),
+    // A reading in one call, into a list of so many nodes.
+    ReadOnce(Phrase, usize, &'static [Row<Listed>]),
+    // A chart: what is asked of it before it is settled, and what then.
+    Chart(&'static [Row<Move>], &'static [Row<Final>]),
+    // A run: so many steps and then calls, questions at the end if it settles, and what is asked of what it leaves.
+    Run(usize, &'static [Call], Option<&'static [FinalQuestion]>, &'static [Row<Left>]),
+    // A run beside the same calls one by one.
+    OneByOne(&'static [Call], &'static [FinalQuestion], &'static [Row<Alike>]),
+}
+
+pub(crate) fn play<P: Print, G: Grammar + Drop, L: Lattice + Drop, W: Weighing + Drop>(
+    teller: &mut Teller<'_, P>,
+    mut setting: Setting<G, L, W>,
+    script: &Script,
+) -> io::Result<()> {
+    match *script {
+        Script::Codes(rows) => teller.tell_all(rows, &mut setting.weighing),
+        Script::Rules(rows) => teller.tell_all(rows, &mut setting.grammar),
+        Script::Weigh(phrase, row) => teller.tell(row, told(weigh(setting, phrase))),
+        Script::ReadOnce(phrase, room, rows) => {
+            teller.tell_all(rows, &mut read_into(setting, phrase, room))
+        }
+        Script::Chart(before, after) => step_and_settle(teller, setting, before, after),
+        Script::Run(steps, calls, questions, rows) => {
+            teller.tell_all(rows, &mut make_run(setting, steps, calls, questions))
+        }
+        Script::OneByOne(calls, questions, rows) => {
+            teller.tell_all(rows, &mut one_by_one(setting, calls, questions))
+        }
+    }
+}

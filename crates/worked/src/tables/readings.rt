@@ -1,0 +1,188 @@
+// Readings: the nodes of the lightest derivation, each before its children, written into a caller's list.
+use crate::charts::Final::{Nodes, Read};
+use crate::making::{node, phrase};
+use crate::readings::{BLANK, Listed};
+use crate::script::Script::{Chart, ReadOnce};
+use crate::settings::Over;
+use crate::settings::Rules::{Counts, Ruled};
+use crate::settings::Weighed::Sum;
+use crate::tables::small::{EMPTIES, ROUND};
+use crate::tables::two_boxes::{TWO_BOXES, WHOLE};
+use crate::tables::weights::{EQUAL, LIGHTER_FIRST, LIGHTER_LAST};
+use crate::theme::Cases::Scripts;
+use crate::theme::Theme;
+use chart_model::node::Node;
+use grammars::count::{LINE, PART};
+use telling::rows;
+
+// "Two box, open one": two boxes, a gap of nothing, and one that is open, whose nodes are the last four.
+const NODES: &[Node] = &[
+    node!(Rule, 1, 0, 4),
+    node!(Rule, 0, 0, 2),
+    node!(Rule, 2, 0, 2),
+    node!(Rule, 7, 0, 1),
+    node!(Word, 0, 0, 1),
+    node!(Word, 1, 1, 2),
+    node!(Rule, 9, 2, 2),
+    node!(Rule, 3, 2, 4),
+    node!(Word, 2, 2, 3),
+    node!(Rule, 6, 3, 4),
+    node!(Word, 3, 3, 4),
+];
+
+// Into a list just as long, and into a longer one, which a part is read into after that; into lists that are too short: as many nodes as
+// there is room for are written; and what is refused as a question is leaves the list as it was.
+const WRITTEN: &[Theme] = &[Theme(
+    "reading",
+    Scripts(
+        Over(Counts, TWO_BOXES, Sum),
+        &[
+            Chart(
+                &[],
+                rows! {
+                    "a list just as long": Read(LINE, 0, 4, 11) => Ok(11);
+                    "its nodes": Nodes(0, 0, NODES) => Ok(11);
+                },
+            ),
+            Chart(
+                &[],
+                rows! {
+                    "a longer list": Read(LINE, 0, 4, 13) => Ok(11);
+                    "then a part": Read(PART, 2, 4, 13) => Ok(4);
+                    "the part's nodes": Nodes(0, 7, NODES) => Ok(4);
+                    "the nodes after them": Nodes(4, 4, NODES) => Ok(7);
+                    "past the longest": Nodes(11, 0, &[BLANK; 2]) => Ok(2);
+                },
+            ),
+            Chart(
+                &[],
+                rows! {
+                    "a list one shorter": Read(LINE, 0, 4, 10) => Err(12);
+                    "the first ten nodes": Nodes(0, 0, NODES) => Ok(10);
+                },
+            ),
+            Chart(
+                &[],
+                rows! {
+                    "a list of one": Read(LINE, 0, 4, 1) => Err(12);
+                    "the first node": Nodes(0, 0, NODES) => Ok(1);
+                    "an empty list": Read(LINE, 0, 4, 0) => Err(12);
+                },
+            ),
+            Chart(
+                &[],
+                rows! {
+                    "a stretch that runs back": Read(LINE, 4, 0, 3) => Err(7);
+                    "past the last node": Read(LINE, 0, 5, 3) => Err(7);
+                    "no derivation": Read(LINE, 2, 3, 3) => Err(9);
+                    "no derivation, no list": Read(LINE, 2, 3, 0) => Err(9);
+                    "the list after these": Nodes(0, 0, &[BLANK; 3]) => Ok(3);
+                },
+            ),
+        ],
+    ),
+)];
+
+// In one call: a symbol that derives itself, a symbol of two of nothing, words that were heard twice, and the line again.
+const IN_ONE_CALL: &[Theme] = &[
+    Theme(
+        "reading",
+        Scripts(
+            ROUND,
+            &[ReadOnce(
+                phrase!(5, 0, 1),
+                4,
+                rows! {
+                    "round and round":
+                        Listed::Whole(&[node!(Rule, 1, 0, 1), node!(Word, 0, 0, 1)]) => Ok(2);
+                },
+            )],
+        ),
+    ),
+    Theme(
+        "reading",
+        Scripts(
+            EMPTIES,
+            &[ReadOnce(
+                phrase!(5, 0, 0),
+                4,
+                rows! {
+                    "two of nothing":
+                        Listed::Whole(&[node!(Rule, 0, 0, 0), node!(Rule, 1, 0, 0), node!(Rule, 1, 0, 0)]) => Ok(3);
+                },
+            )],
+        ),
+    ),
+    Theme(
+        "reading",
+        Scripts(
+            Over(Ruled(&[]), LIGHTER_LAST, Sum),
+            &[ReadOnce(
+                phrase!(9, 0, 1),
+                4,
+                rows! {
+                    "the lighter word, heard last": Listed::Whole(&[node!(Word, 1, 0, 1)]) => Ok(1);
+                },
+            )],
+        ),
+    ),
+    Theme(
+        "reading",
+        Scripts(
+            Over(Ruled(&[]), LIGHTER_FIRST, Sum),
+            &[ReadOnce(
+                phrase!(9, 0, 1),
+                4,
+                rows! {
+                    "the lighter word, heard first": Listed::Whole(&[node!(Word, 0, 0, 1)]) => Ok(1);
+                },
+            )],
+        ),
+    ),
+    Theme(
+        "reading",
+        Scripts(
+            Over(Ruled(&[]), EQUAL, Sum),
+            &[ReadOnce(
+                phrase!(9, 0, 1),
+                4,
+                rows! {
+                    "the first of equal words": Listed::Whole(&[node!(Word, 0, 0, 1)]) => Ok(1);
+                },
+            )],
+        ),
+    ),
+    Theme(
+        "read in one call",
+        Scripts(
+            Over(Counts, TWO_BOXES, Sum),
+            &[
+                ReadOnce(
+                    WHOLE,
+                    11,
+                    rows! {
+                        "its weight": Listed::Weight => Ok(109);
+                        "its length": Listed::Length => Ok(11);
+                        "its nodes": Listed::Nodes(NODES) => Ok(11);
+                    },
+                ),
+                ReadOnce(
+                    WHOLE,
+                    10,
+                    rows! {
+                        "one shorter": Listed::Weight => Err(12);
+                        "the first ten": Listed::Nodes(NODES) => Ok(10);
+                    },
+                ),
+            ],
+        ),
+    ),
+];
+
+pub(crate) fn written() -> &'static [Theme] {
+    WRITTEN
+}
+
+pub(crate) fn in_one_call() -> &'static [Theme] {
+    IN_ONE_CALL
+}

@@ -1,0 +1,82 @@
+// Piles of surcharges on the stock counts: on one symbol, on several, and up to the greatest mark.
+use crate::looks::RuleLook::{Count, Mark};
+use crate::script::Script::Rules;
+use crate::settings::Over;
+use crate::settings::Rules::{Dearer, ThriceDearer, TwiceDearer};
+use crate::settings::Weighed::Sum;
+use crate::tables::two_boxes::{TWO_BOXES, WHOLE};
+use crate::theme::Cases::{Scripts, Weights};
+use crate::theme::Theme;
+use grammars::count::{GAP, LINE, PART};
+use telling::rows;
+
+const TWICE: Over = Over(TwiceDearer((PART, 20), (PART, 5)), TWO_BOXES, Sum);
+
+const PAST: Over = Over(TwiceDearer((PART, 65_000), (PART, 65_000)), TWO_BOXES, Sum);
+
+const ABOVE: Over = Over(TwiceDearer((PART, 20), (GAP, 5)), TWO_BOXES, Sum);
+
+const BELOW: Over = Over(TwiceDearer((GAP, 5), (PART, 20)), TWO_BOXES, Sum);
+
+const THREE: Over = Over(
+    ThriceDearer((PART, 20), (GAP, 5), (LINE, 7)),
+    TWO_BOXES,
+    Sum,
+);
+
+// Rule 1 is that of a line and another part, rule 2 that of a number and boxes, rule 7 that of the number two, and rule 9 that of a gap
+// of nothing. The line "two box, open one" has two parts, a gap of nothing, and two rules of a line.
+const THEMES: &[Theme] = &[
+    Theme(
+        "surcharges",
+        Scripts(
+            TWICE,
+            &[Rules(rows! {
+                "on a part, 20 and 5": Mark(2) => Ok(28);
+                "on a part, no gap": Mark(9) => Ok(0);
+            })],
+        ),
+    ),
+    Theme(
+        "surcharges",
+        Scripts(
+            PAST,
+            &[Rules(rows! {
+                "on a part, past 65,535": Mark(2) => Ok(65_535);
+                "on a part, past the last rule": Mark(11) => Err(0);
+            })],
+        ),
+    ),
+    Theme(
+        "three surcharges",
+        Scripts(
+            THREE,
+            &[Rules(rows! {
+                "a part": Mark(2) => Ok(23);
+                "a gap": Mark(9) => Ok(5);
+                "a line": Mark(1) => Ok(9);
+                "a number": Mark(7) => Ok(0);
+                "rules": Count => Ok(11);
+            })],
+        ),
+    ),
+    Theme(
+        "dearer line",
+        Weights(
+            WHOLE,
+            rows! {
+                "parts 20": Over(Dearer((PART, 20)), TWO_BOXES, Sum) => Ok(149);
+                "parts 20, parts 5": TWICE => Ok(159);
+                "parts 25": Over(Dearer((PART, 25)), TWO_BOXES, Sum) => Ok(159);
+                "parts past 65,535": PAST => Ok(131_172);
+                "parts 20, gaps 5": ABOVE => Ok(154);
+                "gaps 5, parts 20": BELOW => Ok(154);
+                "three deep": THREE => Ok(168);
+            },
+        ),
+    ),
+];
+
+pub(crate) fn themes() -> &'static [Theme] {
+    THEMES
+}

@@ -1,0 +1,119 @@
+// Cases of one theme: what is asked, and what should come out.
+use crate::checks::{Bytes, Kept, Next, RuleCheck, TooMany, WordCheck};
+use crate::looks::{RuleLook, WordLook};
+use crate::making::{rule, word};
+use crate::script::Script;
+use crate::settings::Over;
+use crate::texts::Text;
+use chart_model::phrase::Phrase;
+use grammars::checked::no_rules;
+use grammars::list::RuleList;
+use grammars::rule::RuleRecord;
+use lattice::checked::no_words;
+use lattice::word::Word;
+use lattices::heard::HeardLattice;
+use lattices::typed::TypedLine;
+use std::io;
+use telling::teller::{Row, Teller};
+
+// A theme by its name, and its cases.
+#[derive(Clone, Copy)]
+pub(crate) struct Theme(pub(crate) &'static str, pub(crate) Cases);
+
+#[derive(Clone, Copy)]
+pub(crate) enum Cases {
+    // Scripts over a setting.
+    Scripts(Over, &'static [Script]),
+    // The weight of a symbol over a stretch, in one call, over several settings.
+    Weights(Phrase, &'static [Row<Over>]),
+    // Checks of lists.
+    Words(&'static [Row<WordCheck>]),
+    Rules(&'static [Row<RuleCheck>]),
+    // Lists that are checked one after the other, the last of them too long, and what is left of them.
+    KeptWords(&'static [Row<Next<Word>>], &'static [Row<TooMany>], &'static [Row<WordLook>]),
+    KeptRules(&'static [Row<Next<RuleRecord>>], &'static [Row<TooMany>], &'static [Row<RuleLook>]),
+    KeptBytes(&'static [Row<Bytes>], &'static [Row<WordLook>]),
+    Texts(&'static [Row<Text>]),
+}
+
+impl Theme {
+    // Asks what its rows say, and tells what comes out.
+    pub(crate) fn play<P: Print>(&self, teller: &mut Teller<'_, P>) -> io::Result<()> {
+        teller.theme = self.0;
+        match self.1 {
+            Cases::Scripts(over, scripts) => play_all(teller, &over, scripts),
+            Cases::Weights(phrase, rows) => weigh_all(teller, phrase, rows),
+            Cases::Words(rows) => teller.tell_all(rows, &mut ()),
+            Cases::Rules(rows) => teller.tell_all(rows, &mut ()),
+            Cases::KeptWords(lists, last, rows) => keep_words(teller, lists, last, rows),
+            Cases::KeptRules(lists, last, rows) => keep_rules(teller, lists, last, rows),
+            Cases::KeptBytes(lines, rows) => keep_bytes(teller, lines, rows),
+            Cases::Texts(rows) => teller.tell_all(rows, &mut ()),
+        }
+    }
+}
+
+fn play_all<P: Print>(
+    teller: &mut Teller<'_, P>,
+    over: &Over,
+    scripts: &[Script],
+) -> io::Result<()> {
+    for script in scripts {
+        over.play(teller, script)?;
+    }
+    Ok(())
+}
+
+fn weigh_all<P: Print>(
+    teller: &mut Teller<'_, P>,
+    phrase: Phrase,
+    rows: &'static [Row<Over>],
+) -> io::Result<()> {
+    for row in rows {
+        row.1.play(teller, &Script::Weigh(phrase, row))?;
+    }
+    Ok(())
+}
+
+// A list is too long with 129 words, and with 97 rules.
+fn keep_words<P: Print>(
+    teller: &mut Teller<'_, P>,
+    lists: &[Row<Next<Word>>],
+    last: &[Row<TooMany>],
+    rows: &[Row<WordLook>],
+) -> io::Result<()> {
+    let too_many = [word!(0, 1, 7, 9); 129];
+    let mut kept = Kept {
+        checked: no_words(),
+        too_many: &too_many,
+    };
+    teller.tell_all(lists, &mut kept)?;
+    teller.tell_all(last, &mut kept)?;
+    teller.tell_all(rows, &mut HeardLattice::new(kept.checked))
+}
+
+fn keep_rules<P: Print>(
+    teller: &mut Teller<'_, P>,
+    lists: &[Row<Next<RuleRecord>>],
+    last: &[Row<TooMany>],
+    rows: &[Row<RuleLook>],
+) -> io::Result<()> {
+    let too_many = [rule!(9, 1, [1, 2, 3, 4], 5); 97];
+    let mut kept = Kept {
+        checked: no_rules(),
+        too_many: &too_many,
+    };
+    teller.tell_all(lists, &mut kept)?;
+    teller.tell_all(last, &mut kept)?;
+    teller.tell_all(rows, &mut RuleList::new(kept.checked))
+}
+
+fn keep_bytes<P: Print>(
+    teller: &mut Teller<'_, P>,
+    lines: &[Row<Bytes>],
+    rows: &[Row<WordLook>],
+) -> io::Result<()> {
+    let mut line = TypedLine::empty();
+    teller.tell_all(lines, &mut line)?;
+    teller.tell_all(rows, &mut line)
+}
