@@ -1,8 +1,9 @@
 -- How cases are counted. Assumes nothing.
-use Rattle.std.specs.Prelude.{ℕ, Bool, Result, ◌+◌, ◌-◌, ◌^◌, min, true, false}
+use Rattle.std.specs.Prelude.{ℕ, Bool, Result, ◌≡◌, ◌+◌, ◌-◌, ◌^◌, min, true, false}
 use Rattle.telling.specs.Answers.{same_answer}
 use Rattle.telling.specs.declared.case.Case.{Case}
 use Rattle.telling.specs.declared.tally.Tally.{Tally}
+use Rattle.telling.specs.declared.teller.Row.{Row}
 
 -- one more, as far as a count goes
 abbrev pub one_more : ℕ → ℕ
@@ -19,3 +20,8 @@ answered tally expected got = record { cases = one_more tally.cases; right = rig
 -- a tally after a case
 abbrev pub counted : Tally → Case → Tally
 counted tally case = answered tally case.expected case.got
+
+-- from a subject and a tally to the next: what comes out of a row is counted beside what should
+abbrev pub RowCounted : {S T : Type 0} → (T → S → Result ℕ ℕ → S → Type 0) → S × Tally → Row T → S × Tally → Type 0
+RowCounted answers before row after =
+    (got : Result ℕ ℕ) × answers row.1 before.0 got after.0 × (after.1 ≡ answered before.1 row.2 got)

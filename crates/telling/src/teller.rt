@@ -1,5 +1,5 @@
 // Rows of a table, told one after the other.
-ghost use Rattle.std.specs.Prelude.{◌≡◌, fold, OnOk};
+ghost use Rattle.std.specs.Prelude.{◌≡◌, OnOk, ℕ, Result};
 
 use crate::case::{Answer, Case};
 use crate::tally::Tally;
@@ -18,7 +18,11 @@ macro_rules! rows {
 
 /// What a row asks of a subject.
 pub trait Asks<S> {
-    fn ask(&self, subject: &mut S) -> Answer;
+    /// What may come out, and what may be left of the subject, as far as that is promised.
+    ghost answers: { Self → S → Result ℕ ℕ → S → Type 0 } = { λ _ _ _ _. Unit {0} };
+
+    fn ask(&self, subject: &mut S) -> Answer
+        ensures { answers self.now subject.old result subject.new };
 }
 
 /// Tells cases of one theme after the other.
@@ -30,7 +34,8 @@ pub struct Teller<'a, P> {
 }
 
 impl<'a, P: Print> Teller<'a, P> {
-    ghost use Rattle.telling.specs.Counting.{answered, one_more};
+    ghost use Rattle.std.specs.List.{FoldsTo};
+    ghost use Rattle.telling.specs.Counting.{answered, RowCounted};
 
     /// Tells in a line what came out of a row, and counts it.
     pub fn tell<T>(&mut self, row: &Row<T>, got: Answer) -> io::Result<()>
@@ -46,10 +51,10 @@ impl<'a, P: Print> Teller<'a, P> {
         println!(self.rt; "{case}")
     }
 
-    /// Asks a subject what rows say, in order, and tells what comes out. No row is left out.
+    /// Asks a subject what rows say, in order, tells what comes out of each, and counts it. No row is left out.
     pub fn tell_all<S, T: Asks<S>>(&mut self, rows: &[Row<T>], subject: &mut S) -> io::Result<()>
-        ensures { OnOk result (self.new.tally.cases
-            ≡ fold (λ count _. one_more count) self.old.tally.cases rows.now) }
+        ensures { OnOk result (FoldsTo (RowCounted T.answers)
+            (subject.old, self.old.tally) rows.now (subject.new, self.new.tally)) }
     {
         for row in rows {
             self.tell(row, row.1.ask(subject))?;
