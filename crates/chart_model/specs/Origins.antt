@@ -1,6 +1,7 @@
 -- Where the weights in a chart come from: each follows from what its origin names, which was finished before. Assumes nothing.
 use Rattle.std.specs.Prelude.{◌≡◌, ℕ, zero, suc, ◌≤◌, Bool, true, false, ◌&&◌, List, [], ◌∷◌, Some, None, Option, nat_le, nat_lt}
 use Rattle.std.specs.List.{list_all, slice_get}
+use Rattle.std.specs.Option.{unwrap_or}
 use Rattle.grammar.specs.Rules.{Rule}
 use Rattle.lattice.specs.declared.word.Word.{Word}
 use Rattle.chart_model.specs.Task.{Task}
@@ -86,8 +87,7 @@ Agrees t ps e v (Next a b) = (p : Standing) × (p.at ≡ a) × AtPlace ps p × (
 
 -- the number of a finished edge; 0 for an open one
 abbrev pub number_of : Option ℕ → ℕ
-number_of None = 0
-number_of (Some m) = m
+number_of finished = unwrap_or finished 0
 
 -- the number of the edge at place n; 0 if there is none
 abbrev pub number_at : List Place → ℕ → ℕ

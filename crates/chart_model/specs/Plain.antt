@@ -27,9 +27,9 @@ same_edge (Passive x i j) (Active s m k l) = false
 same_edge (Active r n i j) (Passive y k l) = false
 same_edge (Active r n i j) (Active s m k l) = r == s && (n == m && (i == k && j == l))
 
+-- without a number in the order of finishing
 abbrev pub is_open : Option ℕ → Bool
-is_open None = true
-is_open (Some n) = false
+is_open finished = is_none finished
 
 -- how many places are finished
 abbrev pub done : List Place → ℕ
