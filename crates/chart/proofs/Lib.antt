@@ -9,6 +9,7 @@ pub mod Naming
 pub mod Staying
 pub mod Settling
 pub mod Advancing
+pub mod Soundness
 pub mod Reaching
 pub mod Turns
 pub mod Runs

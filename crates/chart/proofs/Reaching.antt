@@ -20,12 +20,13 @@ use Rattle.chart_model.proofs.Stepping.{reached_steps}
 use Rattle.chart_model.proofs.Stopping.{stopped_refuses}
 use Rattle.chart.specs.declared.setting.Setting.{Setting}
 use Rattle.chart.specs.View.{room}
-use Rattle.chart.specs.Charts.{task_of}
+use Rattle.chart.specs.Settings.{task}
+use Rattle.chart.proofs.Soundness.{sound_parts}
 
--- what a grammar, a lattice and a weighing show of themselves
-pub sound_of : {G L W : Type 0} (g : GrammarGhosts G) (l : LatticeGhosts L) (w : WeighingGhosts W) → ((x : W) → Lawful (w.weights x)) →
-    (s : Setting G L W) → Sound (task_of g l w s)
-sound_of g l w lawful s = record { grammar = g.limits s.grammar; lattice = l.limits s.lattice; weighing = lawful s.weighing }
+-- what the three of a setting show of themselves
+pub sound_of : {G L W : Type 0} {g : GrammarGhosts G} {l : LatticeGhosts L} {w : WeighingGhosts W} → ((x : W) → Lawful (w.weights x)) →
+    (s : Setting G L W g l w) → Sound (task s)
+sound_of {g = g} {l = l} {w = w} lawful s = sound_parts g l w lawful s.grammar s.lattice s.weighing
 
 -- OPENING AND STEPS
 

@@ -1,5 +1,6 @@
 pub mod View
 pub mod Charts
+pub mod Settings
 pub mod Working
 pub mod Settled
 pub mod Outcomes

@@ -9,7 +9,7 @@ use Rattle.chart.specs.declared.outcome.Outcome.{Outcome}
 use Rattle.chart.specs.Working as working
 
 module _ {G L W : Type 0} {g : GrammarGhosts G} {l : LatticeGhosts L} {w : WeighingGhosts W} where
-  abbrev pub opened_over : Outcome G L W g l w → Setting G L W
+  abbrev pub opened_over : Outcome G L W g l w → Setting G L W g l w
   opened_over c = working.opened_over c.chart
 
   abbrev pub task : Outcome G L W g l w → Task

@@ -9,7 +9,7 @@ use Rattle.chart.specs.declared.settled.SettledChart.{SettledChart}
 use Rattle.chart.specs.Working as working
 
 module _ {G L W : Type 0} {g : GrammarGhosts G} {l : LatticeGhosts L} {w : WeighingGhosts W} where
-  abbrev pub opened_over : SettledChart G L W g l w → Setting G L W
+  abbrev pub opened_over : SettledChart G L W g l w → Setting G L W g l w
   opened_over c = working.opened_over c.working
 
   abbrev pub task : SettledChart G L W g l w → Task

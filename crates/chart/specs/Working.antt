@@ -6,14 +6,15 @@ use Rattle.chart_model.specs.Task.{Task}
 use Rattle.chart_model.specs.Plain.{Chart}
 use Rattle.chart.specs.declared.setting.Setting.{Setting}
 use Rattle.chart.specs.declared.working.WorkingChart.{WorkingChart}
-use Rattle.chart.specs.Charts.{task_of, held}
+use Rattle.chart.specs.Charts.{held}
+use Rattle.chart.specs.Settings as settings
 
 module _ {G L W : Type 0} {g : GrammarGhosts G} {l : LatticeGhosts L} {w : WeighingGhosts W} where
-  abbrev pub opened_over : WorkingChart G L W g l w → Setting G L W
+  abbrev pub opened_over : WorkingChart G L W g l w → Setting G L W g l w
   opened_over c = c.setting
 
   abbrev pub task : WorkingChart G L W g l w → Task
-  task c = task_of g l w c.setting
+  task c = settings.task c.setting
 
   abbrev pub chart : WorkingChart G L W g l w → Chart
   chart c = held c.table

@@ -1,7 +1,7 @@
 // What finished edges bring.
 ghost use Rattle.std.specs.Prelude.{◌≡◌};
 ghost use Rattle.chart.specs.Bringing.{begun_rule, joined, met, reached_by};
-ghost use Rattle.chart.specs.Charts.{task_of};
+ghost use Rattle.chart.specs.Settings.{task};
 
 use crate::setting::Setting;
 use chart_model::edge::Edge;
@@ -31,7 +31,7 @@ impl<G: Grammar, L: Lattice, W: Weighing> Setting<G, L, W> {
 
     // What a rule brings that begins with a finished edge.
     pub(crate) fn begin(&self, rule: u8, child: Standing) -> Option<Arrival>
-        ensures { result ≡ begun_rule (task_of G.Grammar L.Lattice W.Weighing self.now) child rule }
+        ensures { result ≡ begun_rule (task self.now) child rule }
     {
         // What kind an edge is of is no option, so `?` has nothing to pass on; the same in `take`.
         let Edge::Passive {
@@ -60,7 +60,7 @@ impl<G: Grammar, L: Lattice, W: Weighing> Setting<G, L, W> {
 
     // What an active edge brings with a passive edge that it takes next.
     fn take(&self, active: Standing, child: Standing) -> Option<Arrival>
-        ensures { result ≡ joined (task_of G.Grammar L.Lattice W.Weighing self.now) active child }
+        ensures { result ≡ joined (task self.now) active child }
     {
         let Edge::Active {
             rule,
@@ -99,7 +99,7 @@ impl<G: Grammar, L: Lattice, W: Weighing> Setting<G, L, W> {
 
     // What two finished edges bring, whichever of them takes the other.
     pub(crate) fn meet(&self, one: Standing, other: Standing) -> Option<Arrival>
-        ensures { result ≡ met (task_of G.Grammar L.Lattice W.Weighing self.now) one other }
+        ensures { result ≡ met (task self.now) one other }
     {
         self.take(one, other).or(self.take(other, one))
     }

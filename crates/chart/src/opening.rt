@@ -2,7 +2,7 @@
 ghost use Rattle.std.specs.Prelude.{◌≡◌};
 ghost use Rattle.chart.specs.Bringing.{heard_word, empty_rule, WordsArrived, EmptiesArrived};
 ghost use Rattle.chart.specs.Bringing.{NodesArrived};
-ghost use Rattle.chart.specs.Charts.{task_of};
+ghost use Rattle.chart.specs.Settings.{task};
 
 use crate::setting::Setting;
 use crate::table::Table;
@@ -16,7 +16,7 @@ use weighing::Weighing;
 impl<G: Grammar, L: Lattice, W: Weighing> Setting<G, L, W> {
     // What a word brings.
     fn word(&self, n: u8) -> Option<Arrival>
-        ensures { result ≡ heard_word (task_of G.Grammar L.Lattice W.Weighing self.now) n }
+        ensures { result ≡ heard_word (task self.now) n }
     {
         let word = self.lattice.word(usize::from(n))?;
         let edge = Edge::Passive {
@@ -30,7 +30,7 @@ impl<G: Grammar, L: Lattice, W: Weighing> Setting<G, L, W> {
 
     // What a rule without right symbols brings at a node.
     fn empty(&self, node: u8, rule: u8) -> Option<Arrival>
-        ensures { result ≡ empty_rule (task_of G.Grammar L.Lattice W.Weighing self.now) node rule }
+        ensures { result ≡ empty_rule (task self.now) node rule }
     {
         if self.grammar.length(usize::from(rule))? != 0 {
             return None;
@@ -48,16 +48,14 @@ impl<G: Grammar, L: Lattice, W: Weighing> Setting<G, L, W> {
 
     // The words arrive, in order. Each number of a word or a rule fits 8 bits, so its cast is plainer than a test that cannot fail.
     pub(crate) fn word_arrivals(&self, table: &mut Table)
-        ensures { WordsArrived (task_of G.Grammar L.Lattice W.Weighing self.now)
-            table.old table.new }
+        ensures { WordsArrived (task self.now) table.old table.new }
     {
         self.bring_each(table, self.lattice.len(), |_, n| self.word(n as u8));
     }
 
     // The rules without right symbols arrive at a node, in order.
     fn empty_arrivals(&self, table: &mut Table, node: u8)
-        ensures { EmptiesArrived (task_of G.Grammar L.Lattice W.Weighing self.now)
-            node table.old table.new }
+        ensures { EmptiesArrived (task self.now) node table.old table.new }
     {
         self.bring_each(
             table,
@@ -68,8 +66,7 @@ impl<G: Grammar, L: Lattice, W: Weighing> Setting<G, L, W> {
 
     // They arrive at every node up to the last.
     pub(crate) fn node_arrivals(&self, table: &mut Table)
-        ensures { NodesArrived (task_of G.Grammar L.Lattice W.Weighing self.now)
-            table.old table.new }
+        ensures { NodesArrived (task self.now) table.old table.new }
     {
         for node in 0..=self.lattice.last_node() {
             self.empty_arrivals(table, node);

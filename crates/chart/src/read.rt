@@ -1,6 +1,6 @@
 // From opening to a reading in one call.
 ghost use Rattle.std.specs.Prelude.{◌≡◌, length};
-ghost use Rattle.chart.specs.Charts.{task_of};
+ghost use Rattle.chart.specs.Settings.{task};
 ghost use Rattle.chart.specs.Refusals.{reading_number, told};
 ghost use Rattle.chart.specs.Saying.{read_answer, read_list, ReadSays};
 
@@ -28,11 +28,9 @@ pub fn read<G: Grammar + Drop, L: Lattice + Drop, W: Weighing + Drop>(
     nodes: &mut [Node],
 ) -> Result<Listed, ReadingRefusal>
     ensures answer { told reading_number result
-        ≡ read_answer (task_of G.Grammar L.Lattice W.Weighing setting) phrase (length nodes.old) }
-    ensures list { nodes.new
-        ≡ read_list (task_of G.Grammar L.Lattice W.Weighing setting) phrase nodes.old }
-    ensures says { ReadSays (task_of G.Grammar L.Lattice W.Weighing setting) phrase
-        nodes.old nodes.new (told reading_number result) }
+        ≡ read_answer (task setting) phrase (length nodes.old) }
+    ensures list { nodes.new ≡ read_list (task setting) phrase nodes.old }
+    ensures says { ReadSays (task setting) phrase nodes.old nodes.new (told reading_number result) }
 {
     let chart = WorkingChart::open(setting).settle();
     let weight = chart.question(phrase)?;

@@ -3,7 +3,8 @@ ghost use Rattle.std.specs.Prelude.{◌≡◌, true};
 ghost use Rattle.chart_model.specs.Plain.{counted, step, step_answer, stopped, settled};
 ghost use Rattle.chart.specs.Bringing.{met_at, NamesFinished, FollowingArrived};
 ghost use Rattle.chart.specs.View.{room, Named};
-ghost use Rattle.chart.specs.Charts.{task_of, held};
+ghost use Rattle.chart.specs.Charts.{held};
+ghost use Rattle.chart.specs.Settings.{task};
 ghost use Rattle.chart.specs.Refusals.{step_number, told};
 
 use crate::refusal::StepRefusal;
@@ -27,8 +28,7 @@ fn count_unless_full(table: &Table) -> Result<u16, StepRefusal>
 impl<G: Grammar, L: Lattice, W: Weighing> Setting<G, L, W> {
     // What the edge at a place brings with the one that has just been finished, if it is finished too.
     fn meet_at(&self, table: &Table, at: usize, finished: Standing) -> Option<Arrival>
-        ensures brings { result ≡ met_at (task_of G.Grammar L.Lattice W.Weighing self.now)
-            finished (held table.now).places at }
+        ensures brings { result ≡ met_at (task self.now) finished (held table.now).places at }
         ensures named { Named (held table.now) finished.at → NamesFinished (held table.now) result }
     {
         let other = table.finished_at(at)?;
@@ -38,8 +38,7 @@ impl<G: Grammar, L: Lattice, W: Weighing> Setting<G, L, W> {
     // All that follows from the finished edge arrives: by the rules in order, and then by the places in order.
     fn spread(&self, table: &mut Table, finished: Standing)
         requires { Named (held table.old) finished.at }
-        ensures { FollowingArrived (task_of G.Grammar L.Lattice W.Weighing self.now) finished
-            table.old table.new }
+        ensures { FollowingArrived (task self.now) finished table.old table.new }
     {
         // The number of a rule fits 8 bits, so its cast is plainer than a test that cannot fail.
         self.bring_each(
@@ -53,10 +52,9 @@ impl<G: Grammar, L: Lattice, W: Weighing> Setting<G, L, W> {
 
     // Finishes the lightest open edge, and tells how many edges are finished then.
     pub(crate) fn advance(&self, table: &mut Table) -> Result<u16, StepRefusal>
-        ensures view { held table.new
-            ≡ step (task_of G.Grammar L.Lattice W.Weighing self.now) room (held table.old) }
+        ensures view { held table.new ≡ step (task self.now) room (held table.old) }
         ensures answer { told step_number result
-            ≡ step_answer (task_of G.Grammar L.Lattice W.Weighing self.now) room (held table.old) }
+            ≡ step_answer (task self.now) room (held table.old) }
     {
         count_unless_full(table)?;
         let finished = table
@@ -68,10 +66,8 @@ impl<G: Grammar, L: Lattice, W: Weighing> Setting<G, L, W> {
 
     // Takes steps until one is refused.
     pub(crate) fn advance_all(&self, table: &mut Table)
-        ensures settled { held table.new
-            ≡ settled (task_of G.Grammar L.Lattice W.Weighing self.now) room (held table.old) }
-        ensures stopped { stopped (task_of G.Grammar L.Lattice W.Weighing self.now) (held table.new)
-            ≡ true }
+        ensures settled { held table.new ≡ settled (task self.now) room (held table.old) }
+        ensures stopped { stopped (task self.now) (held table.new) ≡ true }
     {
         while self.advance(table).is_ok() {}
     }

@@ -5,8 +5,9 @@ ghost use Rattle.chart_model.specs.Plain.{stopped, stop_number, working_answer};
 ghost use Rattle.chart_model.specs.Stands.{Reached, Fits, Stands, Settled};
 ghost use Rattle.chart_model.specs.Saying.{WorkingSays};
 ghost use Rattle.chart.specs.View.{room};
-ghost use Rattle.chart.specs.Charts.{task_of, held};
+ghost use Rattle.chart.specs.Charts.{held};
 ghost use Rattle.chart.specs.Refusals.{step_number, question_number, told};
+ghost use Rattle.chart.specs.Settings as over;
 
 use crate::refusal::{QuestionRefusal, StepRefusal};
 use crate::setting::Setting;
@@ -22,8 +23,7 @@ use weighing::Weighing;
 pub struct WorkingChart<G: Grammar, L: Lattice, W: Weighing> {
     pub(crate) setting: Setting<G, L, W>,
     pub(crate) table: Table,
-    pub ghost reached: { ∥ Reached (task_of G.Grammar L.Lattice W.Weighing setting)
-        (held table) ∥₁ },
+    pub ghost reached: { ∥ Reached (over.task setting) (held table) ∥₁ },
     // So the table's type has it, which is not seen from outside.
     pub ghost fits: { Fits room (held table) },
 }

@@ -77,11 +77,11 @@ fn two_boxes_read() -> [Node; 11] {
 }
 
 fn read_line(words: &[Word], nodes: &mut [Node]) -> Result<Result<Listed, ReadingRefusal>, Fail> {
-    let setting = Setting {
-        grammar: CountGrammar,
-        lattice: HeardLattice::new(CheckedWords::new(words)?),
-        weighing: Sum,
-    };
+    let setting = Setting::new(
+        CountGrammar,
+        HeardLattice::new(CheckedWords::new(words)?),
+        Sum,
+    );
     let line = Phrase {
         symbol: LINE,
         from: 0,
@@ -145,11 +145,11 @@ fn no_such_line(rt: HostRuntime) -> Result<(), Fail> {
 fn symbol_of_itself(rt: HostRuntime) -> Result<(), Fail> {
     let rules = [rule(5, 1, 5, 0), rule(5, 1, 9, 7)];
     let words = [word(0, 1, 9, 5)];
-    let setting = Setting {
-        grammar: RuleList::new(CheckedRules::new(&rules)?),
-        lattice: HeardLattice::new(CheckedWords::new(&words)?),
-        weighing: Sum,
-    };
+    let setting = Setting::new(
+        RuleList::new(CheckedRules::new(&rules)?),
+        HeardLattice::new(CheckedWords::new(&words)?),
+        Sum,
+    );
     let mut nodes = [UNUSED; 3];
     let five = Phrase {
         symbol: 5,
@@ -171,11 +171,11 @@ fn symbol_of_itself(rt: HostRuntime) -> Result<(), Fail> {
 #[test]
 fn empties(rt: HostRuntime) -> Result<(), Fail> {
     let rules = [rule(5, 2, 6, 1), rule(6, 0, 0, 2)];
-    let setting = Setting {
-        grammar: RuleList::new(CheckedRules::new(&rules)?),
-        lattice: TypedLine::empty(),
-        weighing: Sum,
-    };
+    let setting = Setting::new(
+        RuleList::new(CheckedRules::new(&rules)?),
+        TypedLine::empty(),
+        Sum,
+    );
     let chart = WorkingChart::open(setting).settle();
     let mut nodes = [UNUSED; 3];
     let five = Phrase {
@@ -205,11 +205,11 @@ fn more_nodes_than_can_be_counted(rt: HostRuntime) -> Result<(), Fail> {
         rule.length = 2;
         rule.symbols = [(n - 1) as u8; 4];
     }
-    let setting = Setting {
-        grammar: RuleList::new(CheckedRules::new(&rules)?),
-        lattice: TypedLine::empty(),
-        weighing: Sum,
-    };
+    let setting = Setting::new(
+        RuleList::new(CheckedRules::new(&rules)?),
+        TypedLine::empty(),
+        Sum,
+    );
     let mut nodes = [UNUSED; 3];
     let most = Phrase {
         symbol: 95,

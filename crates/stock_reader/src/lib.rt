@@ -42,11 +42,7 @@ fn read_lattice(lattice: HeardLattice) -> Result<Reading, ReadingRefusal>
         from: 0,
         to: lattice.last_node(),
     };
-    let setting = Setting {
-        grammar: CountGrammar,
-        lattice,
-        weighing: Sum,
-    };
+    let setting = Setting::new(CountGrammar, lattice, Sum);
     let mut nodes = ArrayVec::from([Node::default(); MOST_NODES]);
     let listed = read(setting, line, &mut nodes)?;
     nodes.truncate(listed.nodes);

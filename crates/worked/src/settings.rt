@@ -91,42 +91,9 @@ impl Over {
         script: &Script,
     ) -> io::Result<()> {
         match self.2 {
-            Weighed::Sum => {
-                let weighing = Sum;
-                play(
-                    teller,
-                    Setting {
-                        grammar,
-                        lattice,
-                        weighing,
-                    },
-                    script,
-                )
-            }
-            Weighed::Worst => {
-                let weighing = Worst;
-                play(
-                    teller,
-                    Setting {
-                        grammar,
-                        lattice,
-                        weighing,
-                    },
-                    script,
-                )
-            }
-            Weighed::Chance => {
-                let weighing = Chance;
-                play(
-                    teller,
-                    Setting {
-                        grammar,
-                        lattice,
-                        weighing,
-                    },
-                    script,
-                )
-            }
+            Weighed::Sum => play(teller, Setting::new(grammar, lattice, Sum), script),
+            Weighed::Worst => play(teller, Setting::new(grammar, lattice, Worst), script),
+            Weighed::Chance => play(teller, Setting::new(grammar, lattice, Chance), script),
         }
     }
 }

@@ -5,5 +5,5 @@ use Rattle.chart.proofs.run.begin.Goals as goal
 pub returns-clause-stands : goal.returns-clause-stands
 returns-clause-stands g c =
     let after = c.make_all.new.chart in
-    let sound = sound_of g.G.Grammar g.L.Lattice g.W.Weighing g.met.W.Weighing.lawful after.setting in
+    let sound = sound_of g.met.W.Weighing.lawful after.setting in
     stands_of sound (chart after) after.reached

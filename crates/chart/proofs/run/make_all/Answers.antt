@@ -1,7 +1,7 @@
 use Rattle.std.proofs.Common.{◌∙◌, subst, arith}
 use Rattle.std.proofs.lemmas.Grind.{common_steps}
 use Rattle.chart.specs.Calls.{TellsLightest}
-use Rattle.chart.specs.Charts.{task_of}
+use Rattle.chart.specs.Settings as given
 use Rattle.chart.specs.Working.{task}
 use Rattle.chart.proofs.Turns.{all_turned}
 use Rattle.chart.proofs.Runs.{all_next}
@@ -9,13 +9,12 @@ use Rattle.chart.proofs.run.make_all.Goals as goal
 
 pub loop-call-preserved : goal.loop-call-preserved
 loop-call-preserved g c =
-    let over = task_of g.G.Grammar g.L.Lattice g.W.Weighing in
     let l = c.loop-call in
     record {
       made = grind (arith, common_steps);
       lightest =
           all_next (TellsLightest (task c.args.chart.now)) l.calls l.call-index c.make.new.call (omega arith) l.invariant.lightest
-          (subst (λ x. TellsLightest (over x) c.make.new.call) l.invariant.setting c.make.ensures.lightest);
+          (subst (λ x. TellsLightest (given.task x) c.make.new.call) l.invariant.setting c.make.ensures.lightest);
       setting = c.make.ensures.setting ∙ l.invariant.setting;
     }
 

@@ -2,13 +2,14 @@ use Rattle.std.proofs.Common.{◌≡◌, Err, sym, ap, ◌∙◌, rules}
 use Rattle.chart_model.specs.Plain.{Chart, arrive_all, arrivals, counted, completed}
 use Rattle.chart.specs.View.{room, finishing_next}
 use Rattle.chart.specs.Refusals.{step_number, told}
-use Rattle.chart.specs.Charts.{task_of, held}
+use Rattle.chart.specs.Charts.{held}
+use Rattle.chart.specs.Settings.{task}
 use Rattle.chart.proofs.Advancing.{counted_ok, counted_err, full_steps, none_steps, some_steps}
 use Rattle.chart.proofs.setting.Setting.advance.Goals as goal
 
 pub returns-in_err-count_unless_full : goal.returns-in_err-count_unless_full
 returns-in_err-count_unless_full g c =
-    let t = task_of g.G.Grammar g.L.Lattice g.W.Weighing c.args.self.now in
+    let t = task c.args.self.now in
     let before = held c.args.table.now in
     let refused = c.in_err-count_unless_full.ensures in
     let told_so : told step_number c.from_residual.result ≡ Err (step_number c.in_err-count_unless_full.field-0.0) = search rules in
@@ -17,7 +18,7 @@ returns-in_err-count_unless_full g c =
 
 pub returns-in_err-finished : goal.returns-in_err-finished
 returns-in_err-finished g c =
-    let t = task_of g.G.Grammar g.L.Lattice g.W.Weighing c.args.self.now in
+    let t = task c.args.self.now in
     let before = held c.args.table.now in
     let unfilled = counted_ok before _ c.in_ok-count_unless_full.ensures in
     let found = c.finish_lightest.ensures in
@@ -28,7 +29,7 @@ returns-in_err-finished g c =
 
 pub returns : goal.returns
 returns g c =
-    let t = task_of g.G.Grammar g.L.Lattice g.W.Weighing c.args.self.now in
+    let t = task c.args.self.now in
     let before = held c.args.table.now in
     let s = c.in_ok-finished.finished in
     let unfilled = counted_ok before _ c.in_ok-count_unless_full.ensures in

@@ -1,7 +1,8 @@
 use Rattle.std.proofs.Common.{◌≡◌, ◌≤◌, length, ap, ◌∙◌, sym, subst, rules, arith}
 use Rattle.chart_model.specs.Plain.{arrive_all}
 use Rattle.chart.specs.Bringing.{NamesFinished, begun_rule, met_at, brought}
-use Rattle.chart.specs.Charts.{task_of, held}
+use Rattle.chart.specs.Charts.{held}
+use Rattle.chart.specs.Settings.{task}
 use Rattle.chart.specs.View.{room}
 use Rattle.chart.proofs.Naming.{named_later, begun_named}
 use Rattle.chart.proofs.Staying.{since_then, meets_still, spreads}
@@ -9,14 +10,14 @@ use Rattle.chart.proofs.setting.Setting.spread.Goals as goal
 
 pub bring_each-requires-clause-named : goal.bring_each-requires-clause-named
 bring_each-requires-clause-named g c u n r within later post =
-    let t = task_of g.G.Grammar g.L.Lattice g.W.Weighing c.args.self.now in
+    let t = task c.args.self.now in
     let s = c.args.finished in
     let brings : r ≡ begun_rule t s n = search rules in
     subst (NamesFinished (held u.now)) (sym brings) (begun_named t s n (held u.now) (named_later t.weights (held c.args.table.now) (held u.now) s.at later c.requires))
 
 pub bring_each-requires-2-clause-named : goal.bring_each-requires-2-clause-named
 bring_each-requires-2-clause-named g c u n r within later post =
-    let t = task_of g.G.Grammar g.L.Lattice g.W.Weighing c.args.self.now in
+    let t = task c.args.self.now in
     let s = c.args.finished in
     let before = held c.args.table.now in
     let between = held c.bring_each.new.table in
@@ -28,7 +29,7 @@ bring_each-requires-2-clause-named g c u n r within later post =
 
 pub returns : goal.returns
 returns g c =
-    let t = task_of g.G.Grammar g.L.Lattice g.W.Weighing c.args.self.now in
+    let t = task c.args.self.now in
     let s = c.args.finished in
     let before = held c.args.table.now in
     let between = held c.bring_each.new.table in

@@ -9,7 +9,7 @@ use Rattle.chart.proofs.settled.SettledChart.question.Goals as goal
 pub returns-in_err-finished : goal.returns-in_err-finished
 returns-in_err-finished g c =
     let a = c.args.self.now in
-    let sound = sound_of g.G.Grammar g.L.Lattice g.W.Weighing g.met.W.Weighing.lawful a.working.setting in
+    let sound = sound_of g.met.W.Weighing.lawful a.working.setting in
     let p = c.args.phrase in
     let e = err_from_is_err_and c.from_residual.result c.from_residual.ensures.1 in
     let number = settled_number c.in_err-finished.field-0.0 in
@@ -19,7 +19,7 @@ returns-in_err-finished g c =
 pub returns : goal.returns
 returns g c =
     let a = c.args.self.now in
-    let sound = sound_of g.G.Grammar g.L.Lattice g.W.Weighing g.met.W.Weighing.lawful a.working.setting in
+    let sound = sound_of g.met.W.Weighing.lawful a.working.setting in
     let p = c.args.phrase in
     let s = c.in_ok-finished.field-0 in
     let is = found_ok (task a) (chart a) p s c.in_ok-finished.ensures.found in

@@ -10,7 +10,7 @@ use Rattle.chart.proofs.settled.SettledChart.reading.Goals as goal
 pub returns-in_err-at : goal.returns-in_err-at
 returns-in_err-at g c =
     let a = c.args.self.now in
-    let sound = sound_of g.G.Grammar g.L.Lattice g.W.Weighing g.met.W.Weighing.lawful a.working.setting in
+    let sound = sound_of g.met.W.Weighing.lawful a.working.setting in
     let p = c.args.phrase in
     let before = c.args.nodes.now in
     let e = err_from_is_err_and c.from_residual.result c.from_residual.ensures.1 in
@@ -21,7 +21,7 @@ returns-in_err-at g c =
 pub returns-in_err-walk : goal.returns-in_err-walk
 returns-in_err-walk g c =
     let a = c.args.self.now in
-    let sound = sound_of g.G.Grammar g.L.Lattice g.W.Weighing g.met.W.Weighing.lawful a.working.setting in
+    let sound = sound_of g.met.W.Weighing.lawful a.working.setting in
     let p = c.args.phrase in
     let before = c.args.nodes.now in
     let e = err_from_is_err_and c.from_residual-in_err-walk.result c.from_residual-in_err-walk.ensures.1 in
@@ -36,7 +36,7 @@ returns-in_err-walk g c =
 pub returns : goal.returns
 returns g c =
     let a = c.args.self.now in
-    let sound = sound_of g.G.Grammar g.L.Lattice g.W.Weighing g.met.W.Weighing.lawful a.working.setting in
+    let sound = sound_of g.met.W.Weighing.lawful a.working.setting in
     let p = c.args.phrase in
     let before = c.args.nodes.now in
     let filled = c.walk.new.listing.filled in

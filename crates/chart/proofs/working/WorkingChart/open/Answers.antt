@@ -1,12 +1,13 @@
 use Rattle.std.proofs.Common.{refl}
-use Rattle.chart.specs.Charts.{task_of, held}
+use Rattle.chart.specs.Charts.{held}
+use Rattle.chart.specs.Settings.{task}
 use Rattle.chart.proofs.Keeping.{fits}
 use Rattle.chart.proofs.Reaching.{sound_of, opens, opening_reached, stands_of}
 use Rattle.chart.proofs.working.WorkingChart.open.Goals as goal
 
 pub invariant_of-result : goal.invariant_of-result
 invariant_of-result g c =
-    let t = task_of g.G.Grammar g.L.Lattice g.W.Weighing c.args.setting in
+    let t = task c.args.setting in
     let after = held c.node_arrivals.new.table in
     let is = opens t (held c.new-table.result) (held c.word_arrivals.new.table) after c.new-table.ensures c.word_arrivals.ensures c.node_arrivals.ensures in
     record { reached = opening_reached t after is; fits = fits c.node_arrivals.new.table }
@@ -14,8 +15,8 @@ invariant_of-result g c =
 pub returns : goal.returns
 returns g c =
     let s = c.args.setting in
-    let t = task_of g.G.Grammar g.L.Lattice g.W.Weighing s in
-    let sound = sound_of g.G.Grammar g.L.Lattice g.W.Weighing g.met.W.Weighing.lawful s in
+    let t = task s in
+    let sound = sound_of g.met.W.Weighing.lawful s in
     let after = held c.node_arrivals.new.table in
     let is = opens t (held c.new-table.result) (held c.word_arrivals.new.table) after c.new-table.ensures c.word_arrivals.ensures c.node_arrivals.ensures in
     record { setting = refl; opened = is; stands = stands_of sound after (opening_reached t after is) }

@@ -15,6 +15,6 @@ invariant_of-self g c =
 pub returns-clause-stands : goal.returns-clause-stands
 returns-clause-stands g c =
     let a = c.args.self.now in
-    let sound = sound_of g.G.Grammar g.L.Lattice g.W.Weighing g.met.W.Weighing.lawful a.setting in
+    let sound = sound_of g.met.W.Weighing.lawful a.setting in
     let after = held c.advance.new.table in
     stands_of sound after (step_reached (task a) (held a.table) after c.advance.ensures.view a.reached)
