@@ -54,7 +54,7 @@ def counted_line(rng):
 
 
 def any_words(rng):
-    """Words over any stretches, many or few."""
+    """Words over any spans, many or few."""
     last = rng.randrange(1, 32)
     words = []
     for _ in range(rng.choice([0, 1, 5, 20, 60, 128, 129])):

@@ -57,7 +57,7 @@ pub record Found (c : Chart) (s : Standing) : Type 0 where
   -- it stands at a place, and there is a number left for it
   pub within : s.at < length c.places
   pub left : c.finished < room
-  -- it can be finished, and its place be named then
+  -- once it is finished, the table keeps all, and origins may name its place
   pub kept : Kept (finishing c s.at)
   pub named : Named (finishing c s.at) s.at
 
@@ -82,6 +82,6 @@ found lighter c was s h =
       named = earlier_now c s.at it.place it.there it.still_open;
     }
 
--- a named place is there
+-- a place that origins may name is taken
 pub named_within : (c : Chart) (n : ℕ) → Named c n → n < length c.places
 named_within c n h = number_within c.places n (earlier_parts c.places (suc c.finished) n h).0

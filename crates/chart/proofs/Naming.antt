@@ -1,4 +1,4 @@
--- What arrives after a step names only edges that are finished. Assumes nothing.
+-- The premises of what arrives in a step are finished. Assumes nothing.
 use Rattle.std.proofs.Common.{◌≡◌, ℕ, suc, Bool, true, Some, None, Option, sym, refl, subst}
 use Rattle.std.specs.List.{slice_get}
 use Rattle.weighing.specs.Laws.{Weights}

@@ -1,4 +1,4 @@
--- Where a chart comes from, and so what it says of derivations. Assumes nothing.
+-- How charts are reached, and so what they say of derivations. Assumes nothing.
 use Rattle.std.proofs.Common.{◌≡◌, ℕ, suc, true, List, length, Err, Result, sym, ap, ◌∙◌, subst, subst₂}
 use Rattle.std.proofs.Math.Logic.{∥∥₁_map}
 use Rattle.std.proofs.lemmas.List.Sums.{fold-append}

@@ -48,7 +48,7 @@ module _ {X : Type 0} (brings : ℕ → X → Option Arrival) where
       go None = refl
       go (Some a) = refl
 
-  -- what stands at number i, told as number k, and what is left
+  -- what element i brings under number k, and then the elements after it
   brings_rest : (xs : List X) (i k : ℕ) →
       cons_option (elim (slice_get xs i) as (λ _. Option Arrival) [ None ↦ None | Some x ↦ brings k x ]) (gathered brings (suc k) (drop (suc i) xs)) ≡ gathered brings k (drop i xs)
   brings_rest [] zero k = refl

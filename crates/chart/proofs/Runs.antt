@@ -1,4 +1,4 @@
--- Runs of calls: what holds of each as one after the other is given. Assumes nothing.
+-- What holds of each call of a run, gathered call by call. Assumes nothing.
 use Rattle.std.proofs.Common.{◌≡◌, ℕ, ◌+◌, ◌<◌, List, [], ◌∷◌, ◌++◌, length, Some, Result, take, set, sym, subst}
 use Rattle.std.specs.List.{AllByRecursion}
 use Rattle.std.proofs.lemmas.List.{take_more_set}
@@ -11,7 +11,7 @@ use Rattle.chart.specs.Refusals.{settled_number, told}
 use Rattle.chart.specs.View.{room}
 use Rattle.chart.specs.declared.refusal.SettledRefusal.{SettledRefusal}
 
--- one more of which it holds
+-- one element more
 all_more : {X : Type 0} (P : X → Type 0) (xs : List X) (x : X) → AllByRecursion P xs → P x → AllByRecursion P (xs ++ x ∷ [])
 all_more P [] x all one = (one, tt)
 all_more P (y ∷ xs) x (first, all) one = (first, all_more P xs x all one)
@@ -20,7 +20,7 @@ pub all_next : {X : Type 0} (P : X → Type 0) (xs : List X) (i : ℕ) (x : X) �
     AllByRecursion P (take i xs) → P x → AllByRecursion P (take (i + 1) (set xs i x))
 all_next P xs i x within all one = subst (AllByRecursion P) (sym (take_more_set xs i x within)) (all_more P (take i xs) x all one)
 
--- one more question that tells the truth
+-- one question more, truly answered
 pub truth_next : (t : Task) (c : Chart) (questions : List FinalQuestion) (i : ℕ) (p : Phrase) (r : Result ℕ SettledRefusal) → i < length questions →
     TruthTold t c (take i questions) → SettledSays t room c p (told settled_number r) →
     TruthTold t c (take (i + 1) (set questions i (record { phrase = p; answer = Some r })))

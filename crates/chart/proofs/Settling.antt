@@ -10,7 +10,7 @@ use Rattle.chart.specs.View.{room}
 use Rattle.chart.specs.declared.refusal.StepRefusal.{StepRefusal}
 use Rattle.chart.proofs.Advancing.{full_steps, none_steps, some_steps, counted_err}
 
--- an answer that is told is a number of edges or of a refusal
+-- an answer by number is a count of edges, or the number of a refusal
 pub told_ok : (r : Result ℕ StepRefusal) (answer : Result ℕ ℕ) → is_ok r ≡ true → told step_number r ≡ answer → (n : ℕ) × (Ok n ≡ answer)
 told_ok (Ok n) answer ok said = (n, said)
 told_ok (Err e) answer ok said = absurd (false≢true ok)
@@ -100,7 +100,7 @@ module _ (t : Task) where
           let full = counted_err (step t room c) n (answer ∙ busy.answers) in
           (ap (stopped t) next ∙ full_stopped (step t room c) full, inr (ap (λ (x : Chart). x.finished) next ∙ busy.more))
 
-  -- so many steps are left, and lead to the settled chart
+  -- with so many steps still to take, the settled chart is the same
   pub record Settles (before c : Chart) : Type 0 where
     pub left : ℕ
     pub sum : left + c.finished ≡ room + before.finished

@@ -15,7 +15,7 @@ use Rattle.chart.specs.View.{room, standing_at}
 use Rattle.chart.specs.Bringing.{begun_rule, met, met_at, brought, Later}
 use Rattle.chart.proofs.Rounds.{brought_gathered, later_then}
 
--- an open place stands for nothing
+-- an open place has no finished entry
 open_none : (m : ℕ) (p : Place) → is_open p.finished ≡ true → standing m p ≡ None
 open_none m p = go p.finished
   where
@@ -23,7 +23,7 @@ open_none m p = go p.finished
     go None h = refl
     go (Some k) h = absurd (false≢true h)
 
--- what stands finished at number n, told as number m
+-- the finished entry of place n, under number m
 abbrev stands : ℕ → List Place → ℕ → Option Standing
 stands m ps n = elim (slice_get ps n) [ None ↦ None | Some p ↦ standing m p ]
 

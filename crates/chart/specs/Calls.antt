@@ -1,4 +1,4 @@
--- Calls on a chart in order: what each answers, what they leave, and what their answers say. Assumes nothing.
+-- Lists of calls: their answers, the chart that they leave, and what the answers say of derivations. Assumes nothing.
 use Rattle.std.specs.Prelude.{◌≡◌, ⊤, ℕ, Bool, true, false, List, [], ◌∷◌, fold, ◌⊎◌, Some, None, Ok, Option, Result}
 use Rattle.std.specs.List.{AllByRecursion, AllZip}
 use Rattle.std.specs.Borrow.{MutBor}
@@ -21,18 +21,18 @@ use Rattle.chart.specs.View.{room}
 abbrev pub FinalQuestion : Type 0
 FinalQuestion = Question SettledRefusal
 
--- ONE AFTER THE OTHER
+-- IN TURN
 
--- the elements of one list have become those of the other, in order, each at the state that those before it left
+-- element by element, one list has become the other, while `next` moves the state on
 abbrev pub InTurn : {X C : Type 0} → (C → X → C) → (C → X → X → Type 0) → C → List X → List X → Type 0
 InTurn next becomes c [] [] = ⊤
 InTurn next becomes c [] (y ∷ ys) = ⊥
 InTurn next becomes c (x ∷ xs) [] = ⊥
 InTurn next becomes c (x ∷ xs) (y ∷ ys) = becomes c x y × InTurn next becomes (next c x) xs ys
 
--- WHICH CALLS WERE MADE, AND WHAT THEY ANSWERED
+-- CALLS AND ANSWERS
 
--- a question changes nothing
+-- only a step moves a chart on
 abbrev pub after_call : Task → Chart → Call → Chart
 after_call t c (Step a) = step t room c
 after_call t c (Asks q) = c
@@ -40,34 +40,34 @@ after_call t c (Asks q) = c
 abbrev pub after_calls : Task → Chart → List Call → Chart
 after_calls t c calls = fold (after_call t) c calls
 
--- the question has become one with its answer, by the number of its refusal
+-- the question, now with its answer, whose refusal has the right number
 abbrev pub Answered : {E : Type 0} → (E → ℕ) → (Phrase → Result ℕ ℕ) → Question E → Question E → Type 0
 Answered {E = E} number answer q asked =
     (r : Result ℕ E) × (asked ≡ record { phrase = q.phrase; answer = Some r }) × (told number r ≡ answer q.phrase)
 
--- the call was made at this chart, and has its answer
+-- the call, now with the answer of this chart
 abbrev pub Made : Task → Chart → Call → Call → Type 0
 Made t c (Step a) made = (r : Result ℕ StepRefusal) × (made ≡ Step (Some r)) × (told step_number r ≡ step_answer t room c)
 Made t c (Asks q) made = (asked : Question QuestionRefusal) × (made ≡ Asks asked) × Answered question_number (working_answer t c) q asked
 
--- the calls were made in order, from this chart on
+-- all calls in turn, the first at this chart
 abbrev pub AllMade : Task → Chart → List Call → List Call → Type 0
 AllMade t c calls made = InTurn (after_call t) (Made t) c calls made
 
--- the question was asked of this settled chart, and has its answer
+-- the question, now with the answer of this settled chart
 abbrev pub Asked : Task → Chart → FinalQuestion → FinalQuestion → Type 0
 Asked t c q made = Answered settled_number (settled_answer t c) q made
 
 abbrev pub AllAsked : Task → Chart → List FinalQuestion → List FinalQuestion → Type 0
 AllAsked t c questions made = AllZip (Asked t c) questions made
 
--- the chart that is opened, called, and then settled or not
+-- what a run leaves
 abbrev pub run_chart : Task → List Call → Bool → Chart
 run_chart t calls settles =
     let c = after_calls t (opened t room) calls in
     elim settles [ true ↦ settled t room c | false ↦ c ]
 
--- so of the questions that are lent, as they were and as they are left, if there are any
+-- of lent questions, before and after, if any are lent
 abbrev pub Lent : (List FinalQuestion → List FinalQuestion → Type 0) → Option (MutBor (List FinalQuestion)) →
     Unit {0} ⊎ ((MutBor (List FinalQuestion) × Unit {0}) ⊎ ⊥) → Type 0
 Lent So None left = Unit {0}
@@ -76,7 +76,7 @@ Lent So (Some before) _ = ⊥
 
 -- WHAT THE ANSWERS SAY OF DERIVATIONS
 
--- a weight that was answered is that of a derivation, and none is lighter
+-- an answered weight is attained, and the least
 abbrev pub TellsLightest : Task → Call → Type 0
 TellsLightest t (Step a) = ⊤
 TellsLightest t (Asks q) = (w : ℕ) → q.answer ≡ Some (Ok w) → Weighs t (edge_of q.phrase) w × NoneLighter t (edge_of q.phrase) w
@@ -84,7 +84,7 @@ TellsLightest t (Asks q) = (w : ℕ) → q.answer ≡ Some (Ok w) → Weighs t (
 abbrev pub LightestTold : Task → List Call → Type 0
 LightestTold t calls = AllByRecursion (TellsLightest t) calls
 
--- the answer of a settled chart is true, and exact
+-- an answer of the settled chart means what `SettledSays` defines
 abbrev pub TellsTruth : Task → Chart → FinalQuestion → Type 0
 TellsTruth t c q = (r : Result ℕ SettledRefusal) → q.answer ≡ Some r → SettledSays t room c q.phrase (told settled_number r)
 

@@ -1,4 +1,4 @@
--- What a chart is opened over, and what its table holds. Assumes nothing.
+-- The task of a chart, and the plain chart of a table. Assumes nothing.
 use Rattle.weighing.specs.declared.Weighing.{Ghosts as WeighingGhosts}
 use Rattle.grammar.specs.declared.Grammar.{Ghosts as GrammarGhosts}
 use Rattle.lattice.specs.declared.Lattice.{Ghosts as LatticeGhosts}
@@ -7,7 +7,7 @@ use Rattle.chart_model.specs.Plain.{Chart}
 use Rattle.chart.specs.declared.table.Table.{Table}
 use Rattle.chart.specs.View.{view}
 
--- what grammar, lattice and weighing mean together
+-- what a grammar, a lattice and a weighing mean together
 abbrev pub task_of : {G L W : Type 0} → GrammarGhosts G → LatticeGhosts L → WeighingGhosts W → G → L → W → Task
 task_of g l w grammar lattice weighing =
     record { rules = g.rules grammar; last = l.last lattice; words = l.words lattice; weights = w.weights weighing }

@@ -1,4 +1,4 @@
--- A phrase with its place in a settled chart. Assumes nothing.
+-- How a settled chart finds a phrase. Assumes nothing.
 use Rattle.std.specs.Prelude.{ℕ, true, false, Err, Result}
 use Rattle.std.specs.Option.{ok_or}
 use Rattle.chart_model.specs.Task.{Task}
@@ -7,6 +7,6 @@ use Rattle.chart_model.specs.declared.phrase.Phrase.{Phrase}
 use Rattle.chart_model.specs.declared.place.Standing.{Standing}
 use Rattle.chart.specs.View.{standing_of}
 
--- the finished edge of a phrase, or the number of the refusal of a question about it
+-- the entry of a phrase, or the number by which a question about it is refused
 abbrev pub found_answer : Task → Chart → Phrase → Result Standing ℕ
 found_answer t c p = elim (is_within t.last p) [ true ↦ ok_or (standing_of (edge_of p) c.places) (missing_number c) | false ↦ Err 7 ]

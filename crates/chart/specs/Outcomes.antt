@@ -1,4 +1,4 @@
--- What a run was opened over, and the plain chart that it leaves. Assumes nothing.
+-- What outcomes mean: a setting, its task, and a plain chart. Assumes nothing.
 use Rattle.weighing.specs.declared.Weighing.{Ghosts as WeighingGhosts}
 use Rattle.grammar.specs.declared.Grammar.{Ghosts as GrammarGhosts}
 use Rattle.lattice.specs.declared.Lattice.{Ghosts as LatticeGhosts}

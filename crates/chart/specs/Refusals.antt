@@ -1,4 +1,4 @@
--- The numbers of the refusals. Assumes nothing.
+-- The numbers of a chart's refusals. Assumes nothing.
 use Rattle.std.specs.Prelude.{ℕ, Result}
 use Rattle.std.specs.Result.{result_map_both}
 use Rattle.chart.specs.declared.refusal.StepRefusal.{StepRefusal}
@@ -27,7 +27,7 @@ abbrev pub reading_number : ReadingRefusal → ℕ
 reading_number (Reading.Unanswered refusal) = settled_number refusal
 reading_number Reading.TooShort = 12
 
--- a reading is refused as a question is
+-- a question's refusal as a reading's
 abbrev pub as_reading : SettledRefusal → ReadingRefusal
 as_reading refusal = Reading.Unanswered refusal
 

@@ -1,4 +1,4 @@
--- What a chart that is opened and settled in one call answers, and what it says of derivations. Assumes nothing.
+-- Answers of a chart that is opened and settled in one call. Assumes nothing.
 use Rattle.std.specs.Prelude.{◌≡◌, ℕ, List, Ok, Err, Result, IfOk}
 use Rattle.std.specs.Result.{result_map_both}
 use Rattle.chart_model.specs.Task.{Task}
@@ -22,9 +22,9 @@ weigh_answer t p = settled_answer t (whole t) p
 abbrev pub WeighedSays : Task → Phrase → Result ℕ ℕ → Type 0
 WeighedSays t p answer = SettledSays t room (whole t) p answer
 
--- READ, the weight beside the number of nodes
+-- READ
 
--- so many nodes beside a weight
+-- the weight beside the number of nodes
 abbrev pub beside : ℕ → Result ℕ ℕ → Result Listed ℕ
 beside w r = result_map_both (λ n. record { weight = w; nodes = n }) (λ e. e) r
 
@@ -42,8 +42,7 @@ read_answer t p most = listed_answer t (whole t) p most
 abbrev pub read_list : Task → Phrase → List Node → List Node
 read_list t p before = reading_list t (whole t) p before
 
--- what such an answer says: what an answer to the question says, that the reading was written so, and that the weight is the one in
--- that answer
+-- what it says: all that the answer to the question says, what was written, and that both name one weight
 abbrev pub ListedSays : Task → Chart → Phrase → List Node → List Node → Result Listed ℕ → Type 0
 ListedSays t c p before after answer =
     (asked : Result ℕ ℕ) × SettledSays t room c p asked × Written t p before after asked (nodes_of answer) × IfOk answer (λ l. asked ≡ Ok l.weight)

@@ -1,4 +1,4 @@
--- What a setting means. Assumes nothing.
+-- What settings mean: a task. Assumes nothing.
 use Rattle.weighing.specs.declared.Weighing.{Ghosts as WeighingGhosts}
 use Rattle.grammar.specs.declared.Grammar.{Ghosts as GrammarGhosts}
 use Rattle.lattice.specs.declared.Lattice.{Ghosts as LatticeGhosts}

@@ -1,4 +1,4 @@
--- What the places of a chart mean. Assumes nothing.
+-- The plain chart of an array of places, and what its methods make of it. Assumes nothing.
 use Rattle.std.specs.Prelude.{◌≡◌, ℕ, suc, true, List, [], ◌∷◌, ◌++◌, take, Some, None, Option}
 use Rattle.std.specs.List.{slice_get}
 use Rattle.weighing.specs.Laws.{Weights}
@@ -10,47 +10,47 @@ use Rattle.chart_model.specs.Origins.{earlier, names_earlier}
 use Rattle.chart_model.specs.declared.edge.Edge.{Edge}
 use Rattle.chart.specs.declared.places.Places.{Places}
 
--- how many edges a chart has room for
+-- the capacity of a chart
 abbrev pub room : ℕ
 room = 1024
 
--- the plain chart that places hold
+-- an array of places as a plain chart
 abbrev pub view : Places → Chart
 view p = record { places = take p.taken p.slots; full = p.full; finished = p.finished }
 
--- with a new edge at the next place
+-- after a new edge
 abbrev pub put : Chart → Arrival → Chart
 put c a = record { places = c.places ++ (fresh a ∷ []); full = c.full; finished = c.finished }
 
--- with a lighter weight, and its origin, at a place
+-- after a decreased key at place n
 abbrev pub improve : Chart → ℕ → Arrival → Chart
 improve c n a = record { places = modified (lightened a) n c.places; full = c.full; finished = c.finished }
 
--- the lightest open edge
+-- the head of the agenda
 abbrev pub lightest_in : Weights → Chart → Option Standing
 lightest_in ws c = lightest_open ws.lighter c.places
 
--- with one more arrival
+-- after one arrival
 abbrev pub arrived : Weights → Chart → Arrival → Chart
 arrived ws c a = arrive room ws.lighter c a
 
--- the finished edge at a place
+-- the entry of place n, if it is finished
 abbrev pub standing_at : List Place → ℕ → Option Standing
 standing_at ps n = elim (slice_get ps n) [ None ↦ None | Some p ↦ standing n p ]
 
--- an edge with its place, if it is finished
+-- the entry of an edge, if it is finished
 abbrev pub standing_of : Edge → List Place → Option Standing
 standing_of e ps = elim (place_of e ps) [ None ↦ None | Some n ↦ standing_at ps n ]
 
--- with the edge that was found finished
+-- after the found edge is finished
 abbrev pub finishing_next : Chart → Option Standing → Chart
 finishing_next c None = c
 finishing_next c (Some s) = finishing c s.at
 
--- an origin may name the edge at a place, which has been finished
+-- place n is finished, so an origin may name it
 abbrev pub Named : Chart → ℕ → Type 0
 Named c n = earlier c.places (suc c.finished) n ≡ true
 
--- the origin of an arrival names only such edges
+-- the premises of an arrival are finished
 abbrev pub NamesEarlier : Chart → Arrival → Type 0
 NamesEarlier c a = names_earlier c.places (suc c.finished) a.origin ≡ true

@@ -1,4 +1,4 @@
-// What numbered things bring arrives at a table, one after the other.
+// The loop by which numbered things bring arrivals to a table.
 ghost use Rattle.std.specs.Prelude.{◌<◌, ℕ};
 ghost use Rattle.std.specs.Borrow.{Bor};
 ghost use Rattle.chart.specs.declared.table.Table.{Table};
@@ -12,7 +12,7 @@ use lattice::Lattice;
 use weighing::Weighing;
 
 impl<G: Grammar, L: Lattice, W: Weighing> Setting<G, L, W> {
-    // What each number below a count brings arrives, in order. It may be read off the table, as that is by then.
+    // What each number below a count brings arrives, in order; `brings` sees the table as it is by then.
     pub(crate) fn bring_each<F: Fn(&Table, usize) -> Option<Arrival>>(
         &self,
         table: &mut Table,

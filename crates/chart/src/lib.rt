@@ -1,4 +1,4 @@
-// Charts: opened over a grammar, a lattice and a weighing, stepped, settled, questioned and read.
+// Best-first charts in fixed memory: opened, stepped, settled, questioned and read.
 #![tactic(auto)]
 
 mod bringing;

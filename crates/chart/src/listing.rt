@@ -1,9 +1,9 @@
-// Nodes over a caller's list, from its front on.
+// A caller's list of nodes, as it is filled from the front.
 ghost use Rattle.std.specs.Prelude.{◌≡◌, ◌≤◌, length, [], ◌∷◌, OnErr};
 
 use chart_model::node::Node;
 
-// The nodes so far, and those of the caller's after them. The memory is the caller's, so it is a slice and how far it is filled.
+// The caller's list, of which the first `filled` nodes are written.
 #[derive(Drop)]
 pub(crate) struct Listing<'a> {
     pub(crate) nodes: &'a mut [Node],
@@ -14,7 +14,7 @@ pub(crate) struct Listing<'a> {
 impl<'a> Listing<'a> {
     ghost use Rattle.chart.specs.Reading.{Lists, SameList};
 
-    // One node more, where there is room.
+    // Writes one node more, where there is room.
     pub(crate) fn push(&mut self, node: Node) -> Result<(), NoRoom>
         ensures lists { Lists (node ∷ []) self.old self.new result }
         ensures same { SameList self.old self.new }
@@ -29,6 +29,6 @@ impl<'a> Listing<'a> {
     }
 }
 
-// The list is filled.
+// Every node of the list is written.
 #[derive(Clone, Copy, PartialEq, Eq, Debug)]
 pub(crate) struct NoRoom;

@@ -1,4 +1,4 @@
-// What finished edges bring.
+// The inferences from finished edges: the bottom-up start of a rule, and the fundamental rule.
 ghost use Rattle.std.specs.Prelude.{◌≡◌};
 ghost use Rattle.chart.specs.Bringing.{begun_rule, joined, met, reached_by};
 ghost use Rattle.chart.specs.Settings.{task};
@@ -12,7 +12,7 @@ use lattice::Lattice;
 use weighing::Weighing;
 
 impl<G: Grammar, L: Lattice, W: Weighing> Setting<G, L, W> {
-    // A rule with its first symbols over a stretch; with all of them, its left symbol.
+    // The edge of a rule over a span, its first `seen` symbols complete: passive, of its left, if that is all of them.
     fn reached(&self, rule: u8, seen: u8, from: u8, to: u8) -> Option<Edge>
         ensures { result ≡ reached_by (G.rules self.now.grammar) rule seen from to }
     {
@@ -29,11 +29,10 @@ impl<G: Grammar, L: Lattice, W: Weighing> Setting<G, L, W> {
         })
     }
 
-    // What a rule brings that begins with a finished edge.
+    // The start of a rule whose first right symbol is that of a finished passive edge.
     pub(crate) fn begin(&self, rule: u8, child: Standing) -> Option<Arrival>
         ensures { result ≡ begun_rule (task self.now) child rule }
     {
-        // What kind an edge is of is no option, so `?` has nothing to pass on; the same in `take`.
         let Edge::Passive {
             symbol: found,
             from,
@@ -58,7 +57,7 @@ impl<G: Grammar, L: Lattice, W: Weighing> Setting<G, L, W> {
         Some(Arrival::new(edge, weight, origin))
     }
 
-    // What an active edge brings with a passive edge that it takes next.
+    // The fundamental rule: an active edge takes a passive edge that starts where it ends, of the symbol it wants next.
     fn take(&self, active: Standing, child: Standing) -> Option<Arrival>
         ensures { result ≡ joined (task self.now) active child }
     {
@@ -97,7 +96,7 @@ impl<G: Grammar, L: Lattice, W: Weighing> Setting<G, L, W> {
         Some(Arrival::new(edge, weight, origin))
     }
 
-    // What two finished edges bring, whichever of them takes the other.
+    // The same for two finished edges, either of which may be the active one.
     pub(crate) fn meet(&self, one: Standing, other: Standing) -> Option<Arrival>
         ensures { result ≡ met (task self.now) one other }
     {

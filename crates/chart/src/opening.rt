@@ -1,4 +1,4 @@
-// What arrives at a table when a chart is opened: words and empty rules.
+// The axioms, which arrive at a table when a chart is opened: words and empty rules.
 ghost use Rattle.std.specs.Prelude.{◌≡◌};
 ghost use Rattle.chart.specs.Bringing.{heard_word, empty_rule, WordsArrived, EmptiesArrived};
 ghost use Rattle.chart.specs.Bringing.{NodesArrived};
@@ -14,7 +14,7 @@ use lattice::Lattice;
 use weighing::Weighing;
 
 impl<G: Grammar, L: Lattice, W: Weighing> Setting<G, L, W> {
-    // What a word brings.
+    // The passive edge of a word.
     fn word(&self, n: u8) -> Option<Arrival>
         ensures { result ≡ heard_word (task self.now) n }
     {
@@ -28,7 +28,7 @@ impl<G: Grammar, L: Lattice, W: Weighing> Setting<G, L, W> {
         Some(Arrival::new(edge, weight, Origin::Word(n)))
     }
 
-    // What a rule without right symbols brings at a node.
+    // The passive edge of a rule without right symbols, at a node.
     fn empty(&self, node: u8, rule: u8) -> Option<Arrival>
         ensures { result ≡ empty_rule (task self.now) node rule }
     {
@@ -46,14 +46,14 @@ impl<G: Grammar, L: Lattice, W: Weighing> Setting<G, L, W> {
         Some(Arrival::new(edge, weight, Origin::Empty(rule)))
     }
 
-    // The words arrive, in order. Each number of a word or a rule fits 8 bits, so its cast is plainer than a test that cannot fail.
+    // The words arrive, in order. Their numbers fit 8 bits, as those of rules do.
     pub(crate) fn word_arrivals(&self, table: &mut Table)
         ensures { WordsArrived (task self.now) table.old table.new }
     {
         self.bring_each(table, self.lattice.len(), |_, n| self.word(n as u8));
     }
 
-    // The rules without right symbols arrive at a node, in order.
+    // The empty rules arrive at one node, in order.
     fn empty_arrivals(&self, table: &mut Table, node: u8)
         ensures { EmptiesArrived (task self.now) node table.old table.new }
     {
@@ -64,7 +64,7 @@ impl<G: Grammar, L: Lattice, W: Weighing> Setting<G, L, W> {
         );
     }
 
-    // They arrive at every node up to the last.
+    // They arrive at all nodes, from 0 to the last.
     pub(crate) fn node_arrivals(&self, table: &mut Table)
         ensures { NodesArrived (task self.now) table.old table.new }
     {

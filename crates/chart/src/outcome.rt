@@ -9,7 +9,7 @@ use grammar::Grammar;
 use lattice::Lattice;
 use weighing::Weighing;
 
-/// The edges of a chart after its last call, and what it was opened over.
+/// A chart after its last call, settled or not. It takes no more calls.
 #[derive(Drop)]
 pub struct Outcome<G: Grammar, L: Lattice, W: Weighing> {
     pub(crate) chart: WorkingChart<G, L, W>,
@@ -18,28 +18,28 @@ pub struct Outcome<G: Grammar, L: Lattice, W: Weighing> {
 impl<G: Grammar, L: Lattice, W: Weighing> Outcome<G, L, W> {
     ghost use Rattle.chart.specs.Outcomes.{opened_over, chart};
 
-    /// The weight of an edge; none if it is not finished.
+    /// The weight of an edge, passive or active; none if it is not finished.
     pub fn weight(&self, edge: Edge) -> Option<u64>
         ensures { result ≡ carried edge (chart self.now).places }
     {
         self.chart.table.carried(edge)
     }
 
-    /// How many edges are finished.
+    /// How many edges are finished, at most 1,024.
     pub fn finished(&self) -> u16
         ensures { result ≡ (chart self.now).finished }
     {
         self.chart.table.count()
     }
 
-    /// Whether a new edge has found no place.
+    /// Whether the chart is full: an edge has been dropped for want of a place.
     pub fn is_full(&self) -> bool
         ensures { result ≡ (chart self.now).full }
     {
         self.chart.table.is_full()
     }
 
-    /// Gives back what the chart was opened over.
+    /// Gives back the grammar, the lattice and the weighing.
     pub fn into_setting(self) -> Setting<G, L, W>
         ensures { result ≡ opened_over self }
     {

@@ -1,4 +1,4 @@
-// The places of a chart, each with an edge.
+// The places of a chart in an array of fixed size.
 ghost use Rattle.std.specs.Prelude.{◌≡◌, ◌+◌, ◌<◌, ◌≤◌, IfSome, nat_eq, length};
 ghost use Rattle.std.specs.List.{slice_get};
 ghost use Rattle.std.specs.Option.{option_copied};
@@ -9,12 +9,11 @@ use chart_model::edge::Edge;
 use chart_model::place::{Arrival, Place, Standing};
 use weighing::Weighing;
 
-// How many edges a chart has room for.
+// The capacity of a chart, in edges.
 pub(crate) const ROOM: usize = 1024;
 
-// The first `taken` slots are the places of edges, in order. Beside them stands whether a new edge has found none, and how many edges are
-// finished, which is counted along: to count them anew at each step would go through all places.
-// A plain struct without an invariant: that no more are taken than there are is what its methods ask for, and what `Table` keeps.
+// The first `taken` slots are places, in the order of arrival; `finished` counts the finished ones, and `full` says that an
+// edge was dropped. That `taken` is within the room is kept by `Table`.
 #[derive(Drop)]
 pub(crate) struct Places {
     pub(crate) slots: [Place; ROOM],
@@ -23,7 +22,7 @@ pub(crate) struct Places {
     pub(crate) finished: u16,
 }
 
-// The lightest open edge so far, or another one if that is lighter.
+// The lighter of two open edges, the former in a tie.
 fn lighter_of<W: Weighing>(weighing: &W, best: Option<Standing>, edge: Standing) -> Option<Standing>
     ensures { result ≡ lighter_of (W.weights weighing.now).lighter best edge }
 {
@@ -35,7 +34,7 @@ fn lighter_of<W: Weighing>(weighing: &W, best: Option<Standing>, edge: Standing)
 }
 
 impl Places {
-    // Places without edges.
+    // All slots free.
     pub(crate) fn none() -> Self
         ensures view { view result ≡ blank }
         ensures taken { result.taken ≡ 0 }
@@ -48,7 +47,7 @@ impl Places {
         }
     }
 
-    // The taken places, in order.
+    // The taken places, by their numbers.
     pub(crate) fn taken_places(&self) -> &[Place]
         requires { self.now.taken ≤ room }
         ensures { result.now ≡ (view self.now).places }
@@ -56,7 +55,7 @@ impl Places {
         &self.slots[..self.taken]
     }
 
-    // What stands at a place.
+    // The place of a number; none if it is not taken.
     pub(crate) fn at(&self, n: usize) -> Option<&Place>
         requires { self.now.taken ≤ room }
         ensures place { option_copied result ≡ slice_get (view self.now).places n }
@@ -65,7 +64,7 @@ impl Places {
         self.taken_places().get(n)
     }
 
-    // The place of an edge.
+    // The number of an edge's place.
     pub(crate) fn find(&self, edge: Edge) -> Option<usize>
         requires { self.now.taken ≤ room }
         ensures place { result ≡ place_of edge (view self.now).places }
@@ -76,7 +75,7 @@ impl Places {
             .position(|place| place.edge == edge)
     }
 
-    // The lightest open edge, at the lowest place among equals.
+    // The head of the agenda: the lightest open edge; ties go to the lower number.
     pub(crate) fn lightest<W: Weighing>(&self, weighing: &W) -> Option<Standing>
         requires { self.now.taken ≤ room }
         ensures { result ≡ lightest_in (W.weights weighing.now) (view self.now) }
@@ -84,7 +83,7 @@ impl Places {
         let mut best = None;
         for (at, place) in self.taken_places().iter().enumerate() {
             if place.is_open() {
-                // The number of a place fits 16 bits, so its cast is plainer than a test that cannot fail.
+                // The number of a place fits 16 bits.
                 best = lighter_of(weighing, best, place.seen(at as u16));
             }
         }
@@ -110,7 +109,7 @@ impl Places {
         self.taken += 1;
     }
 
-    // Gives the edge at a place a lighter weight, and its origin.
+    // Decreases the key of the edge at a place.
     fn improve(&mut self, at: usize, arrival: Arrival)
         requires within { at < self.old.taken }
         requires room { self.old.taken ≤ room }
@@ -120,7 +119,7 @@ impl Places {
         self.slots[at].lighten(arrival);
     }
 
-    // Finishes the edge at a place.
+    // Finishes the edge at a place, which gets the next number.
     pub(crate) fn finish(&mut self, at: usize)
         requires within { at < self.old.taken }
         requires room { self.old.taken ≤ room }
@@ -132,7 +131,7 @@ impl Places {
         self.slots[at].finish(self.finished);
     }
 
-    // Brings a weight and an origin to an edge.
+    // An arrival: inserts a new edge, or makes an open one lighter. A full chart takes none.
     pub(crate) fn arrive<W: Weighing>(&mut self, weighing: &W, arrival: Arrival)
         requires { self.old.taken ≤ room }
         ensures view { view self.new ≡ arrived (W.weights weighing.now) (view self.old) arrival }

@@ -13,15 +13,17 @@ use grammar::Grammar;
 use lattice::Lattice;
 use weighing::Weighing;
 
-/// What was read: its weight, and how many nodes it has.
+/// What a reading in one call answers; its nodes are in the caller's list.
 #[derive(Clone, Copy, PartialEq, Eq, Debug)]
 pub struct Listed {
+    /// The weight of the derivation that was read.
     pub weight: u64,
+    /// How many nodes it has.
     pub nodes: usize,
 }
 
-/// Reads the lightest derivation of a phrase: writes its nodes into the caller's list, each node before its children. Refused as a
-/// reading of a settled chart is, with 7, 10, 9 or 12.
+/// Opens and settles a chart, and writes the nodes of a phrase's lightest derivation into the caller's list, in pre-order.
+/// Refused with 7, 9 or 10, the list untouched, and with 12 if it is too short for all nodes and holds the first of them.
 pub fn read<G: Grammar + Drop, L: Lattice + Drop, W: Weighing + Drop>(
     setting: Setting<G, L, W>,
     phrase: Phrase,

@@ -1,4 +1,4 @@
-// Readings: the nodes of a finished edge, each before its children.
+// The walk along origins that writes a reading: the nodes of a finished edge, in pre-order.
 ghost use Rattle.std.specs.Prelude.{◌≡◌, Some, length, OnErr};
 ghost use Rattle.std.specs.List.{slice_get};
 ghost use Rattle.std.specs.Option.{option_to_list};
@@ -24,15 +24,14 @@ pub(crate) struct FinishedAt<'a> {
 impl<'a> FinishedAt<'a> {
     ghost use Rattle.chart.specs.Reading.{places_of, own_nodes, all_nodes, Lists, SameList};
 
-    // What stands at its place.
+    // Its place.
     fn place(&self) -> Place
         ensures { slice_get (places_of self.now) self.now.at ≡ Some result }
     {
         self.table.place(self.at)
     }
 
-    // The rule of an active edge. An origin names only active ones here, which this type does not know: so 0 for a passive one, as
-    // `rule_at` has it.
+    // The rule of an active edge; 0 for a passive one, for which no use asks.
     fn rule(&self) -> u8
         ensures { result ≡ rule_at (places_of self.now) self.now.at }
     {
@@ -42,13 +41,12 @@ impl<'a> FinishedAt<'a> {
         }
     }
 
-    // The node of a passive edge, by its origin; an active edge has none.
+    // The node of a passive edge; an active edge has none.
     fn own_node(&self) -> Option<Node>
         ensures { option_to_list result ≡ own_nodes self.now }
     {
         let table = self.table;
         let place = self.place();
-        // What kind an edge is of is no option, so `?` has nothing to pass on.
         let Edge::Passive { from, to, .. } = place.edge else {
             return None;
         };
@@ -78,8 +76,7 @@ impl<'a> FinishedAt<'a> {
         }
     }
 
-    // Writes its nodes, as many as there is room for.
-    // It ends since an origin names only edges that were finished before.
+    // Writes its nodes, as many as there is room for. It ends, as premises were finished before their conclusion.
     pub(crate) fn walk(&self, listing: &mut Listing<'_>) -> Result<(), NoRoom>
         ensures lists { Lists (all_nodes self.now) listing.old listing.new result }
         ensures same { SameList listing.old listing.new }

@@ -1,4 +1,4 @@
-// Why a chart refuses, each reason with its number.
+// Why charts refuse calls: refusals 7 to 12.
 ghost use Rattle.std.specs.Prelude.{◌≡◌};
 ghost use Rattle.chart.specs.declared.refusal.ReadingRefusal.TheVariants.{TooShort};
 ghost use Rattle.chart.specs.Refusals.{step_number, question_number, settled_number};
@@ -7,36 +7,45 @@ ghost use Rattle.chart.specs.Refusals.{reading_number, as_reading};
 use crate::listing::NoRoom;
 use records::numbered::Numbered;
 
-/// A step is refused by a full chart, and where nothing is open.
+/// Why a step is refused.
 #[derive(Clone, Copy, PartialEq, Eq, Debug)]
 pub enum StepRefusal {
+    /// 10: the chart is full. If the step made it so, it has finished its edge.
     Full = 10, // before the step, or by it
+    /// 11: no edge is open, and the chart is not full; nothing has changed.
     NothingOpen = 11,
 }
 
-/// A working chart refuses what is no stretch of its lattice, and an edge that is not finished.
+/// Why a working chart refuses a question.
 #[derive(Clone, Copy, PartialEq, Eq, Debug)]
 pub enum QuestionRefusal {
+    /// 7: the lattice has no such span.
     NoStretch = 7,
+    /// 8: the edge is not finished.
     NotFinished = 8,
 }
 
-/// A settled chart says of an edge that is not finished that it has no derivation, unless the chart is full.
+/// Why a settled chart refuses a question.
 #[derive(Clone, Copy, PartialEq, Eq, Debug)]
 pub enum SettledRefusal {
+    /// 7: the lattice has no such span.
     NoStretch = 7,
+    /// 9: the edge has no derivation.
     NoDerivation = 9,
+    /// 10: more edges have derivations than the chart has places, and this edge is not among its finished ones.
     Full = 10, // without the edge
 }
 
-/// A reading is refused as a question to a settled chart is, and where it is longer than the list.
+/// Why a reading is refused.
 #[derive(Clone, Copy, PartialEq, Eq, Debug)]
 pub enum ReadingRefusal {
+    /// 7, 9 or 10, as the question about its phrase is; the list is untouched.
     Unanswered(SettledRefusal),
+    /// 12: the list is too short, and holds the first nodes.
     TooShort,
 }
 
-// A case is its number. Each enum casts itself, since a cast of a type parameter is no Rust.
+// The number of a case is its discriminant.
 impl Numbered for StepRefusal {
     ghost number = { step_number };
 

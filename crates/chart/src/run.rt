@@ -31,7 +31,7 @@ fn make<G: Grammar, L: Lattice, W: Weighing>(chart: &mut WorkingChart<G, L, W>, 
     }
 }
 
-// Makes calls in order.
+// Makes calls in order, and notes their answers.
 fn make_all<G: Grammar, L: Lattice, W: Weighing>(
     chart: &mut WorkingChart<G, L, W>,
     calls: &mut [Call],
@@ -47,7 +47,6 @@ fn make_all<G: Grammar, L: Lattice, W: Weighing>(
 }
 
 // Asks questions in order, and notes their answers.
-// Not one function with the loop over calls, since a call changes the chart and a question does not.
 fn ask_all<G: Grammar, L: Lattice, W: Weighing>(
     chart: &SettledChart<G, L, W>,
     questions: &mut [FinalQuestion],
@@ -77,8 +76,8 @@ fn begin<G: Grammar, L: Lattice, W: Weighing>(
     chart
 }
 
-/// Opens a chart, makes calls on it, and then, if there are questions for it, settles it and asks them. Answers, refusals too, are noted
-/// in the lists. What the chart was opened over stays with the outcome.
+/// Opens a chart and makes calls on it, in order; given a list of questions, even an empty one, settles it then and asks
+/// them. Each answer, refusals too, is noted beside its call or question. Never refused.
 pub fn run<G: Grammar, L: Lattice, W: Weighing>(
     setting: Setting<G, L, W>,
     calls: &mut [Call],

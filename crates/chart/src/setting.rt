@@ -1,6 +1,4 @@
-// What a chart is opened over.
-// Clauses say what it means by a definition (`task`): a model would have the task as its value, and a task holds functions, which
-// are no values of a model.
+// Settings: what a chart is opened over.
 ghost use Rattle.std.specs.Prelude.{◌≡◌};
 ghost use Rattle.chart_model.specs.Task.{Sound};
 ghost use Rattle.chart.specs.Charts.{task_of};
@@ -9,19 +7,22 @@ use grammar::Grammar;
 use lattice::Lattice;
 use weighing::Weighing;
 
-/// A grammar, a lattice and a weighing, which a chart is opened over.
+/// A grammar, a lattice and a weighing. A chart takes them over and never changes them.
 #[derive(Drop)]
 pub struct Setting<G: Grammar, L: Lattice, W: Weighing> {
+    /// The rules.
     pub grammar: G,
+    /// The words.
     pub lattice: L,
+    /// What marks weigh.
     pub weighing: W,
-    // Each of the three shows its part. It names what they mean, so that definitions over the type can name that too.
+    // Names what the three mean, for definitions over the type.
     pub ghost sound: { ∥ Sound (task_of G.Grammar L.Lattice W.Weighing
         grammar lattice weighing) ∥₁ },
 }
 
 impl<G: Grammar, L: Lattice, W: Weighing> Setting<G, L, W> {
-    /// A setting of these three. Nothing is refused. That they are sound is shown here, which a literal leaves to its writer.
+    /// Puts the three together, and shows that they are sound. Never refused.
     #[tactic(auto, using(crate::proofs::Soundness::sound_parts))]
     pub fn new(grammar: G, lattice: L, weighing: W) -> Self
         ensures grammar { result.grammar ≡ grammar }

@@ -1,4 +1,4 @@
-// A chart that takes no more steps.
+// Settled charts, which answer questions for good and are read.
 ghost use Rattle.std.specs.Prelude.{◌≡◌, true, length, IfOk};
 ghost use Rattle.chart_model.specs.Plain.{stopped, missing_number, settled_answer};
 ghost use Rattle.chart_model.specs.Reading.{reading_answer, reading_list};
@@ -18,7 +18,7 @@ use grammar::Grammar;
 use lattice::Lattice;
 use weighing::Weighing;
 
-/// A chart that takes no step any more. It comes from settling a working chart, and keeps it.
+/// A chart at which every step would be refused, as `settle` leaves it.
 #[derive(Drop)]
 pub struct SettledChart<G: Grammar, L: Lattice, W: Weighing> {
     pub(crate) working: WorkingChart<G, L, W>,
@@ -29,7 +29,7 @@ impl<G: Grammar, L: Lattice, W: Weighing> SettledChart<G, L, W> {
     ghost use Rattle.chart.specs.Settled.{task, chart};
     ghost use Rattle.chart.specs.Finding.{found_answer};
 
-    // Why an edge is not finished.
+    // The refusal of an edge that is not finished.
     fn missing(&self) -> SettledRefusal
         ensures { settled_number result ≡ missing_number (chart self.now) }
     {
@@ -40,7 +40,7 @@ impl<G: Grammar, L: Lattice, W: Weighing> SettledChart<G, L, W> {
         }
     }
 
-    // A phrase with its place, if its edge is finished.
+    // The entry of a phrase's edge, if that is finished.
     fn finished(&self, phrase: Phrase) -> Result<Standing, SettledRefusal>
         ensures found { told settled_number result
             ≡ found_answer (task self.now) (chart self.now) phrase }
@@ -51,8 +51,8 @@ impl<G: Grammar, L: Lattice, W: Weighing> SettledChart<G, L, W> {
         self.working.table.standing(edge).ok_or(self.missing())
     }
 
-    /// The weight of a phrase. Refused with 7 where the lattice has no such stretch; with 10 where the chart is full without its edge,
-    /// and with 9 where it has no derivation.
+    /// The weight of a phrase's lightest derivation. Refused with 7 if the lattice has no such span, with 9 if there is no
+    /// derivation, and with 10 if the chart is full and has not finished the edge.
     pub fn question(&self, phrase: Phrase) -> Result<u64, SettledRefusal>
         ensures answer { told settled_number result
             ≡ settled_answer (task self.now) (chart self.now) phrase }
@@ -62,8 +62,8 @@ impl<G: Grammar, L: Lattice, W: Weighing> SettledChart<G, L, W> {
         Ok(self.finished(phrase)?.weight)
     }
 
-    /// Writes the reading of a phrase into the caller's list, each node before its children, and answers how many nodes. Refused as a
-    /// question is; with 12 where it is longer than the list, which then holds its first nodes.
+    /// Writes the nodes of a phrase's lightest derivation over the front of a list, in pre-order, and answers how many.
+    /// Refused as a question, the list untouched, and with 12 if the list is too short, which then holds the first nodes.
     pub fn reading(&self, phrase: Phrase, nodes: &mut [Node]) -> Result<usize, ReadingRefusal>
         ensures answer { told reading_number result
             ≡ reading_answer (task self.now) (chart self.now) phrase (length nodes.old) }

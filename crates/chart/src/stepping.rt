@@ -1,4 +1,4 @@
-// Steps of a table: an edge is finished, and what follows from it arrives.
+// Steps: the lightest open edge is finished, and its conclusions arrive.
 ghost use Rattle.std.specs.Prelude.{◌≡◌, true};
 ghost use Rattle.chart_model.specs.Plain.{counted, step, step_answer, stopped, settled};
 ghost use Rattle.chart.specs.Bringing.{met_at, NamesFinished, FollowingArrived};
@@ -15,7 +15,7 @@ use grammar::Grammar;
 use lattice::Lattice;
 use weighing::Weighing;
 
-// How many edges are finished; refused at a full chart.
+// How many edges are finished; refused with 10 at a full chart.
 fn count_unless_full(table: &Table) -> Result<u16, StepRefusal>
     ensures { told step_number result ≡ counted (held table.now) }
 {
@@ -26,7 +26,7 @@ fn count_unless_full(table: &Table) -> Result<u16, StepRefusal>
 }
 
 impl<G: Grammar, L: Lattice, W: Weighing> Setting<G, L, W> {
-    // What the edge at a place brings with the one that has just been finished, if it is finished too.
+    // The fundamental rule between the edge just finished and that at a place, if it is finished too.
     fn meet_at(&self, table: &Table, at: usize, finished: Standing) -> Option<Arrival>
         ensures brings { result ≡ met_at (task self.now) finished (held table.now).places at }
         ensures named { Named (held table.now) finished.at → NamesFinished (held table.now) result }
@@ -35,12 +35,12 @@ impl<G: Grammar, L: Lattice, W: Weighing> Setting<G, L, W> {
         self.meet(other, finished)
     }
 
-    // All that follows from the finished edge arrives: by the rules in order, and then by the places in order.
+    // The conclusions with the edge just finished arrive: rule starts first, then the fundamental rule, each in order.
     fn spread(&self, table: &mut Table, finished: Standing)
         requires { Named (held table.old) finished.at }
         ensures { FollowingArrived (task self.now) finished table.old table.new }
     {
-        // The number of a rule fits 8 bits, so its cast is plainer than a test that cannot fail.
+        // The number of a rule fits 8 bits.
         self.bring_each(
             table,
             self.grammar.len(),
@@ -50,7 +50,7 @@ impl<G: Grammar, L: Lattice, W: Weighing> Setting<G, L, W> {
         self.bring_each(table, places, |table, at| self.meet_at(table, at, finished));
     }
 
-    // Finishes the lightest open edge, and tells how many edges are finished then.
+    // One step. Refused with 11 if nothing is open, and with 10 by a chart that is full before or after it.
     pub(crate) fn advance(&self, table: &mut Table) -> Result<u16, StepRefusal>
         ensures view { held table.new ≡ step (task self.now) room (held table.old) }
         ensures answer { told step_number result

@@ -1,4 +1,4 @@
-// Places whose origins name only edges that were finished before.
+// Tables: places in which premises are finished before their conclusions.
 ghost use Rattle.std.specs.Prelude.{◌≡◌, ◌≤◌, true, length, IfSome, Some};
 ghost use Rattle.std.specs.List.{slice_get};
 ghost use Rattle.chart_model.specs.Plain.{blank, done, carried as carried_plain};
@@ -11,9 +11,7 @@ use chart_model::edge::Edge;
 use chart_model::place::{Arrival, Place, Standing};
 use weighing::Weighing;
 
-// An origin names only finished edges, with lower numbers than its own edge has or will get.
-// Ghost fields and no model: the facts of a model are at hand only where a method is called, and settling needs them between calls.
-// That the edge of an answer is finished (`Named`) is a clause and no field of it: an answer outlives the table's next change.
+// By `orderly` a walk along origins ends: each premise was finished before its conclusion.
 #[derive(Drop)]
 pub(crate) struct Table {
     places: Places,
@@ -26,7 +24,7 @@ pub(crate) struct Table {
 impl Table {
     ghost use Rattle.chart.specs.Charts.{held};
 
-    // A table without edges.
+    // The empty table.
     pub(crate) fn new() -> Self
         ensures { held result ≡ blank }
     {
@@ -34,7 +32,7 @@ impl Table {
         Table { places }
     }
 
-    // Whether a new edge has found no place.
+    // Whether an edge was dropped for want of a place.
     pub(crate) fn is_full(&self) -> bool
         ensures { result ≡ (held self.now).full }
     {
@@ -55,18 +53,18 @@ impl Table {
         self.places.taken_places().len()
     }
 
-    // The finished edge at a place.
+    // The entry of a place, if it is finished.
     pub(crate) fn finished_at(&self, at: usize) -> Option<Standing>
         ensures stands { result ≡ standing_at (held self.now).places at }
         ensures earlier { IfSome result (λ s. Named (held self.now) s.at) }
     {
         let place = self.places.at(at)?;
         place.finished?;
-        // The number of a place fits 16 bits, so its cast is plainer than a test that cannot fail.
+        // The number of a place fits 16 bits.
         Some(place.seen(at as u16))
     }
 
-    // What stands at the place of a finished edge.
+    // The place of a finished edge.
     pub(crate) fn place(&self, at: u16) -> Place
         requires { Named (held self.now) at }
         ensures { slice_get (held self.now).places at ≡ Some result }
@@ -74,7 +72,7 @@ impl Table {
         self.places.slots[usize::from(at)]
     }
 
-    // An edge with its place, if it is finished.
+    // The entry of an edge, if it is finished.
     pub(crate) fn standing(&self, edge: Edge) -> Option<Standing>
         ensures stands { result ≡ standing_of edge (held self.now).places }
         ensures earlier { IfSome result (λ s. Named (held self.now) s.at) }
@@ -89,7 +87,7 @@ impl Table {
         Some(self.standing(edge)?.weight)
     }
 
-    // Brings a weight and an origin to an edge.
+    // An arrival, whose premises have to be finished.
     pub(crate) fn arrive<W: Weighing>(&mut self, weighing: &W, arrival: Arrival)
         requires { NamesEarlier (held self.old) arrival }
         ensures { held self.new ≡ arrived (W.weights weighing.now) (held self.old) arrival }
@@ -97,7 +95,7 @@ impl Table {
         self.places.arrive(weighing, arrival);
     }
 
-    // Finishes the lightest open edge, at the lowest place among equals.
+    // Pops the agenda: finishes the lightest open edge, in a tie the one with the lower place.
     pub(crate) fn finish_lightest<W: Weighing>(&mut self, weighing: &W) -> Option<Standing>
         ensures lightest { result ≡ lightest_in (W.weights weighing.now) (held self.old) }
         ensures view { held self.new ≡ finishing_next (held self.old) result }

@@ -12,7 +12,8 @@ use grammar::Grammar;
 use lattice::Lattice;
 use weighing::Weighing;
 
-/// The weight of the lightest derivation of a phrase. Refused as a question to a settled chart is, with 7, 10 or 9.
+/// Opens and settles a chart, and answers the weight of a phrase's lightest derivation. Refused with 7 if the lattice has
+/// no such span, with 9 if there is no derivation, and with 10 if the chart is full and has not finished the edge.
 pub fn weigh<G: Grammar + Drop, L: Lattice + Drop, W: Weighing + Drop>(
     setting: Setting<G, L, W>,
     phrase: Phrase,

@@ -1,4 +1,4 @@
-// A chart that still takes steps.
+// Working charts, which take steps and can be settled.
 ghost use Rattle.std.specs.Prelude.{◌≡◌, true, Err};
 ghost use Rattle.chart_model.specs.Plain.{opened, step as plain_step, step_answer, settled};
 ghost use Rattle.chart_model.specs.Plain.{stopped, stop_number, working_answer};
@@ -18,13 +18,13 @@ use grammar::Grammar;
 use lattice::Lattice;
 use weighing::Weighing;
 
-/// A chart over a grammar, a lattice and a weighing that still takes steps. Opening and steps lead to it.
+/// A chart of 1,024 places that takes steps. `open` is the one way to get it, and it has no `Clone`.
 #[derive(Drop)]
 pub struct WorkingChart<G: Grammar, L: Lattice, W: Weighing> {
     pub(crate) setting: Setting<G, L, W>,
     pub(crate) table: Table,
     pub ghost reached: { ∥ Reached (over.task setting) (held table) ∥₁ },
-    // So the table's type has it, which is not seen from outside.
+    // No more places are taken than there are, and all of them if the chart is full.
     pub ghost fits: { Fits room (held table) },
 }
 
@@ -32,7 +32,7 @@ impl<G: Grammar, L: Lattice, W: Weighing> WorkingChart<G, L, W> {
     ghost use Rattle.chart.specs.Working.{opened_over, task, chart};
     ghost use Rattle.chart.specs.Settled as final;
 
-    /// Opens a chart, which is never refused: the words arrive, and then, node by node, the rules without right symbols.
+    /// Opens a chart, in which the words and the empty rules are open. Never refused, though it may be full at once.
     pub fn open(setting: Setting<G, L, W>) -> Self
         ensures setting { opened_over result ≡ setting }
         ensures opened { chart result ≡ opened (task result) room }
@@ -44,8 +44,8 @@ impl<G: Grammar, L: Lattice, W: Weighing> WorkingChart<G, L, W> {
         WorkingChart { setting, table }
     }
 
-    /// Finishes the lightest open edge, and answers how many edges are finished. Refused with 10 by a full chart and where the step
-    /// makes it full, its edge finished; with 11 where nothing is open.
+    /// Finishes the lightest open edge, adds what follows, and answers how many edges are finished. Refused with 11 if
+    /// nothing is open, and with 10 if the chart is full or gets full, which undoes nothing.
     pub fn step(&mut self) -> Result<u16, StepRefusal>
         ensures stepped { chart self.new ≡ plain_step (task self.old) room (chart self.old) }
         ensures answer { told step_number result
@@ -56,15 +56,14 @@ impl<G: Grammar, L: Lattice, W: Weighing> WorkingChart<G, L, W> {
         self.setting.advance(&mut self.table)
     }
 
-    /// The weight of a phrase, if its edge is finished. Refused with 7 where the lattice has no such stretch, and with 8 where the edge is
-    /// not finished.
+    /// The weight of a phrase, if its edge is finished. Refused with 7 if the lattice has no such span, else with 8 if the
+    /// edge is not finished.
     pub fn question(&self, phrase: Phrase) -> Result<u64, QuestionRefusal>
         ensures answer { told question_number result
             ≡ working_answer (task self.now) (chart self.now) phrase }
         ensures says { WorkingSays (task self.now) (chart self.now) phrase
             (told question_number result) }
     {
-        // A settled chart asks likewise: one function for both would take both refusals as arguments.
         let last = self.setting.lattice.last_node();
         let edge = phrase.edge_within(last).ok_or(QuestionRefusal::NoStretch)?;
         self.table.carried(edge).ok_or(QuestionRefusal::NotFinished)
@@ -79,7 +78,7 @@ impl<G: Grammar, L: Lattice, W: Weighing> WorkingChart<G, L, W> {
         self.setting.advance_all(&mut self.table);
     }
 
-    /// Takes steps until one is refused. What it leaves would refuse a further one, by the same number as a step does.
+    /// Steps until the agenda is empty or the chart full, which takes at most 1,024 steps. Never refused.
     pub fn settle(mut self) -> SettledChart<G, L, W>
         ensures settled { final.chart result ≡ settled (task self) room (chart self) }
         ensures refuses { step_answer (task self) room (final.chart result)

@@ -13,7 +13,7 @@ use Rattle.chart_model.proofs.AtMost.{AtMost}
 use Rattle.chart_model.proofs.Members.{In}
 use Rattle.chart_model.proofs.Placing.{Reaches, Beyond, Brought, apart, placed_from, placed_keeps, placed_reaches, placed_apart, placed_done, placed_length, placed_grows, placed_held}
 
--- the edge is reached, or the chart is full and no finished edge is heavier
+-- the edge has a place and weighs v or less there, or the chart is full and no finished edge weighs more than v
 abbrev pub Answered : Weights → Chart → Edge → ℕ → Type 0
 Answered ws c e v = Reaches ws c.places e v ⊎ ((c.full ≡ true) × Beyond ws c.places v)
 

@@ -35,15 +35,15 @@ weighs_reads t e v d = (d.0, d.1, refl)
 pub reads_weighs : (t : Task) (e : Edge) (v : ℕ) (ns : List Node) → Reads t e v ns → Weighs t e v
 reads_weighs t e v ns d = (d.0, d.1)
 
--- so by rule n over these nodes
+-- the same, where the nodes are those below rule n
 abbrev pub RuleReads : Task → ℕ → List Node → Edge → ℕ → Type 0
 RuleReads t n ns e v = Reads t e v (headed e n ns)
 
--- derivations of these symbols over the stretch, which join to this weight and have these nodes
+-- the symbols are derived over the span, with this weight from the rule's mark on, and with these nodes
 abbrev pub Rows : Task → Rule → List ℕ → ℕ → ℕ → ℕ → List Node → Type 0
 Rows t r xs i j v ns = (row : Row t xs i j) × (row_weight row (t.weights.weigh r.mark) ≡ v) × (row_nodes row ≡ ns)
 
--- so the first k symbols of a rule's right side
+-- the same for the symbols before the dot, which stands after k of them
 abbrev pub Begun : Task → Rule → ℕ → ℕ → ℕ → ℕ → List Node → Type 0
 Begun t r k i j v ns = Rows t r (take k r.right) i j v ns
 
@@ -79,7 +79,7 @@ module _ (t : Task) (s : Sound t) where
   pub weighs_code : (e : Edge) (v : ℕ) → Weighs t e v → Code v
   weighs_code e v d = subst Code d.1 (weight_code e d.0)
 
-  -- STRETCHES LIE WITHIN THE LATTICE
+  -- SPANS LIE WITHIN THE LATTICE
 
   pub row_end : {xs : List ℕ} {i j : ℕ} → Row t xs i j → j ≤ t.last
   row_end (none within) = within

@@ -1,4 +1,4 @@
--- The test of edges tells when two edges are one. Assumes nothing.
+-- The test of edges decides whether two edges are equal. Assumes nothing.
 use Rattle.std.proofs.Common.{◌≡◌, true, false, ◌&&◌, eqb, sym, refl, ◌∙◌, subst}
 use Rattle.chart_model.specs.Plain.{same_edge}
 use Rattle.chart_model.specs.declared.edge.Edge.{Edge}

@@ -1,5 +1,4 @@
--- Every edge of a chart that opening and steps lead to follows from what its origin names, which was finished before it.
--- Assumes nothing.
+-- Reachable charts are well-founded: origins name inferences whose premises were finished first. Assumes nothing.
 use Rattle.std.proofs.Common.{◌≡◌, ℕ, zero, suc, Bool, true, false, ◌⊎◌, List, [], ◌∷◌, Some, sym, refl, ap, ◌∙◌, subst, inl, inr}
 use Rattle.std.specs.List.{slice_get}
 use Rattle.std.proofs.lemmas.Bool.{true≢false, and_from}

@@ -39,7 +39,7 @@ pub record Inv (t : Task) (c : Chart) : Type 0 where
 pub inv_coded : (t : Task) (s : Sound t) (c : Chart) → Inv t c → Coded c.places
 inv_coded t s c inv p i = weighs_code t s p.edge p.weight (inv.sound p i)
 
--- an arrival that one is told of is answered
+-- if all arrivals are answered, what one of them brings is
 pub brings_answered : (t : Task) (c : Chart) (as' : List Arrival) →
     ((a : Arrival) → In a as' → Answered t.weights c a.edge a.weight) → (e : Edge) (v : ℕ) → Brings as' e v → Answered t.weights c e v
 brings_answered t c as' all e v b = subst₂ (Answered t.weights c) b.2 b.3 (all b.0 b.1)

@@ -10,7 +10,7 @@ use Rattle.chart_model.proofs.AtMost.{AtMost, at_most_refl, at_most_lighter, at_
 use Rattle.chart_model.proofs.Members.{In, none_some, some_same, nth_in, in_nth, nth_below}
 use Rattle.chart_model.proofs.Arriving.{Coded}
 
--- an open edge stands at the place that is told
+-- the entry is that of an open place
 pub record StandsOpen (ps : List Place) (s : Standing) : Type 0 where
   pub place : Place
   pub there : slice_get ps s.at ≡ Some place

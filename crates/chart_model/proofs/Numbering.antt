@@ -38,7 +38,7 @@ number_shut (p ∷ ps) zero some = (p, refl, shut p.finished some)
     shut (Some m) some = refl
 number_shut (p ∷ ps) (suc n) some = number_shut ps n some
 
--- what was earlier among some places is so among others, below another limit
+-- what was finished before a limit among some places was so before another limit among others
 module _ (ps qs : List Place) (low high : ℕ) (each : (n : ℕ) → earlier ps low n ≡ true → earlier qs high n ≡ true) where
   pub names_kept : (o : Origin) → names_earlier ps low o ≡ true → names_earlier qs high o ≡ true
   names_kept (FromWord n) h = refl
@@ -80,14 +80,14 @@ module _ (lighter : ℕ → ℕ → Bool) (a : Arrival) where
     pub named_still : (limit : ℕ) (o : Origin) → names_earlier c.places limit o ≡ true → names_earlier (arrive capacity lighter c a).places limit o ≡ true
     named_still limit = names_kept c.places (arrive capacity lighter c a).places limit limit (earlier_arrive limit)
 
-    -- a place that was in order still is
+    -- an orderly place stays so
     kept : (p : Place) → in_order c p ≡ true → Ordered c.finished p.finished p.origin
     kept p h =
         let both = and_parts (numbered c.finished p.finished) (names_earlier c.places (due c.finished p.finished) p.origin) h in
         and_from (numbered c.finished p.finished) (names_earlier (arrive capacity lighter c a).places (due c.finished p.finished) p.origin)
         both.0 (named_still (due c.finished p.finished) p.origin both.1)
 
-    -- an open place whose origin names edges finished so far is in order
+    -- an open place whose premises are finished is orderly
     new : (s : Option ℕ) → is_open s ≡ true → (o : Origin) → names_earlier c.places (suc c.finished) o ≡ true → Ordered c.finished s o
     new None h o named = named_still (suc c.finished) o named
     new (Some m) h o named = absurd (false≢true h)
@@ -101,7 +101,7 @@ module _ (lighter : ℕ → ℕ → Bool) (a : Arrival) where
         go p (inl j) = kept p (every_in (in_order c) c.places h p j)
         go p (inr b) = new p.finished b.0 p.origin (subst (λ o. names_earlier c.places (suc c.finished) o ≡ true) (sym b.3) named)
 
--- what arrives names edges finished so far
+-- arrivals with finished premises
 abbrev pub NamesFinished : Chart → List Arrival → Type 0
 NamesFinished c as' = (a : Arrival) → In a as' → names_earlier c.places (suc c.finished) a.origin ≡ true
 

@@ -1,4 +1,5 @@
--- What one arrival leaves among the places: nothing gets heavier, finished edges stay, and edges stay apart. Assumes nothing.
+-- What one arrival leaves among the places: nothing gets heavier, finished edges stay, and edges stay apart. Assumes
+-- nothing.
 use Rattle.std.proofs.Common.{◌≡◌, ℕ, suc, ◌≤◌, Bool, true, false, ◌&&◌, ◌||◌, ◌⊎◌, List, [], ◌∷◌, length, sym, refl, ap, ◌∙◌, subst, inl, inr, arith}
 use Rattle.weighing.specs.Laws.{Weights, Lawful, Code}
 use Rattle.chart_model.specs.Plain.{same_edge, is_open, fresh, lightened, improved, placed, holds, done}

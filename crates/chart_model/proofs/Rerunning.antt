@@ -1,5 +1,5 @@
--- A chart that opening and steps lead to is led to by as many steps as it has finished edges, with room for just its places:
--- so it is known how it is reached where it is only known that it is. Assumes nothing.
+-- A reachable chart is reached by as many steps as it has finished edges, with room for just its places; so the fact that
+-- it is reachable determines a way to it. Assumes nothing.
 use Rattle.std.proofs.Common.{◌≡◌, ℕ, zero, suc, ◌≤◌, Bool, true, false, ◌||◌, ltb, ◌⊎◌, List, [], ◌∷◌, length, Some, None, Option, sym, refl, ap, ◌∙◌, subst, inl, inr, arith}
 use Rattle.std.proofs.Math.Logic.{∥∥₁_elim}
 use Rattle.std.proofs.Props.{props}

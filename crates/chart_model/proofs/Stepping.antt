@@ -227,7 +227,7 @@ pub inv_reached : (t : Task) → Sound t → {c : Chart} → Reached t c → Inv
 inv_reached t s (by_opening capacity) = inv_opened t s capacity
 inv_reached t s (by_step capacity {c} before) = inv_step t s capacity c (inv_reached t s before)
 
--- steps lead from a chart that is reached to one that is
+-- steps keep a chart reachable
 pub reached_steps : (t : Task) (capacity n : ℕ) (c : Chart) → Reached t c → Reached t (steps t capacity n c)
 unfolding steps
 reached_steps t capacity zero c r = r

@@ -1,4 +1,4 @@
--- Derivations: finite trees over the rules and the words of a task, and their weights. Assumes nothing.
+-- Derivation trees over the words and rules of a task, and their weights. Assumes nothing.
 use Rattle.std.specs.Prelude.{◌≡◌, ℕ, ◌<◌, ◌≤◌, List, [], ◌∷◌, length, take, Some}
 use Rattle.std.specs.List.{slice_get}
 use Rattle.grammar.specs.Rules.{Rule}
@@ -8,20 +8,18 @@ use Rattle.chart_model.specs.declared.edge.Edge.{Edge}
 use Rattle.chart_model.specs.declared.edge.Edge.TheVariants.{Passive, Active}
 
 mutual
-  -- Tree t x i j: a derivation of the symbol x over the stretch from i to j.
-  -- Word number n derives its symbol over its stretch; rule number n derives its left by a row of its right symbols.
+  -- `Tree t x i j`: derivations of x over the span [i, j]. A leaf is a word; an inner node is a rule with a `Row` below it.
   pub data Tree (t : Task) : ℕ → ℕ → ℕ → Type 0 where
     word : (n : ℕ) (w : Word) → slice_get t.words n ≡ Some w → Tree t w.symbol w.from w.to
     rule : (n : ℕ) (r : Rule) {i j : ℕ} → slice_get t.rules n ≡ Some r → Row t r.right i j → Tree t r.left i j
 
-  -- Row t xs i j: derivations of the symbols xs in order, over stretches that meet end to end from i to j.
-  -- No symbols take no room, at any node of the lattice.
+  -- `Row t xs i j`: a tree for each symbol of xs, their spans tiling [i, j] in order; the empty row sits at a node.
   pub data Row (t : Task) : List ℕ → ℕ → ℕ → Type 0 where
     none : {i : ℕ} → i ≤ t.last → Row t [] i i
     more : {x : ℕ} {xs : List ℕ} {i j k : ℕ} → Tree t x i j → Row t xs j k → Row t (x ∷ xs) i k
 
--- a word weighs the weight of its mark; a rule starts with the weight of its own mark,
--- and joins the weights of its children to it from left to right, the running weight first
+-- weight (word) = weigh mark
+-- weight (rule over c₁ .. cₙ) = join (.. (join (weigh mark) (weight c₁)) ..) (weight cₙ)
 abbrev mutual
   pub tree_weight : {t : Task} {x i j : ℕ} → Tree t x i j → ℕ
   tree_weight {t} (word n w e) = t.weights.weigh w.mark
@@ -31,7 +29,7 @@ abbrev mutual
   row_weight {t} (none within) running = running
   row_weight {t} (more child rest) running = row_weight rest (t.weights.join running (tree_weight child))
 
--- a derivation of an edge; an active edge is derived by the first symbols of its rule, at least one and not all
+-- derivations of an edge; an active edge is a dotted rule, 0 < k < length, and what stands before the dot is derived
 abbrev pub Derives : Task → Edge → Type 0
 Derives t (Passive x i j) = Tree t x i j
 Derives t (Active n k i j) =
@@ -41,7 +39,7 @@ abbrev pub weight_of : (t : Task) (e : Edge) → Derives t e → ℕ
 weight_of t (Passive x i j) d = tree_weight d
 weight_of t (Active n k i j) d = row_weight d.3 (t.weights.weigh d.0.mark)
 
--- the stretch of an edge runs forward, or stays, within the lattice
+-- the span of an edge lies in the lattice; it may be empty
 abbrev pub LiesWithin : ℕ → Edge → Type 0
 LiesWithin last (Passive x i j) = (i ≤ j) × (j ≤ last)
 LiesWithin last (Active n k i j) = (i ≤ j) × (j ≤ last)

@@ -1,4 +1,4 @@
--- The listing of a derivation: each node before its children, children from left to right. Assumes nothing.
+-- Derivations as lists of nodes, in pre-order. Assumes nothing.
 use Rattle.std.specs.Prelude.{ℕ, List, [], ◌∷◌, ◌++◌}
 use Rattle.chart_model.specs.Task.{Task}
 use Rattle.chart_model.specs.Derivation.{Tree, Row, word, rule, none, more}
@@ -20,11 +20,12 @@ abbrev mutual
   row_nodes (none within) = []
   row_nodes (more child rest) = tree_nodes child ++ row_nodes rest
 
--- a rule's node over a passive edge, before the nodes below it; an active edge has no node of its own
+-- the nodes below an edge, under the node of its rule; an active edge adds no node
 abbrev pub headed : Edge → ℕ → List Node → List Node
 headed (Passive x i j) r below = node RuleNode r i j ∷ below
 headed (Active m k i j) r below = below
 
+-- the node of a word, which is a passive edge
 abbrev pub word_node : Edge → ℕ → List Node
 word_node (Passive x i j) n = node WordNode n i j ∷ []
 word_node (Active m k i j) n = []

@@ -1,4 +1,4 @@
--- The plain chart: what opening, steps, settling and questions answer and leave, place by place. Assumes nothing.
+-- The plain chart: best-first chart parsing as functions on lists of places. Assumes nothing.
 use Rattle.std.specs.Prelude.{ℕ, zero, suc, Bool, true, false, ◌&&◌, ◌||◌, not, List, [], ◌∷◌, ◌++◌, length, count_by, fold, position, Some, None, Ok, Err, Option, Result, ◌==◌, nat_eq, nat_le, nat_lt}
 use Rattle.std.specs.List.{slice_get, list_any, enumerate_from}
 use Rattle.std.specs.Option.{ok_or, option_or, option_to_list, is_none}
@@ -15,7 +15,7 @@ use Rattle.chart_model.specs.declared.place.Place.{Place}
 use Rattle.chart_model.specs.declared.place.Arrival.{Arrival}
 use Rattle.chart_model.specs.declared.place.Standing.{Standing}
 
--- the taken places in order, whether a new edge has found no place, and how many edges are finished
+-- places in the order of arrival, whether an edge was dropped for want of a place, and the count of finished edges
 pub record Chart : Type 0 where
   pub places : List Place
   pub full : Bool
@@ -27,74 +27,74 @@ same_edge (Passive x i j) (Active s m k l) = false
 same_edge (Active r n i j) (Passive y k l) = false
 same_edge (Active r n i j) (Active s m k l) = r == s && (n == m && (i == k && j == l))
 
--- without a number in the order of finishing
+-- on the agenda: not numbered in the order of finishing yet
 abbrev pub is_open : Option ℕ → Bool
 is_open finished = is_none finished
 
--- how many places are finished
+-- the count of finished places
 abbrev pub done : List Place → ℕ
 done ps = count_by (λ p. not (is_open p.finished)) ps
 
--- the place of an edge
+-- the place of an edge, from 0
 abbrev pub place_of : Edge → List Place → Option ℕ
 place_of e ps = position (λ p. same_edge p.edge e) ps
 
 abbrev pub holds : Edge → List Place → Bool
 holds e ps = list_any (λ p. same_edge p.edge e) ps
 
--- a change at one place
+-- f applied at place n alone
 abbrev pub modified : (Place → Place) → ℕ → List Place → List Place
 modified f n [] = []
 modified f zero (p ∷ ps) = f p ∷ ps
 modified f (suc n) (p ∷ ps) = p ∷ modified f n ps
 
--- what numbered things bring, in order, where the first has number n
+-- the arrivals that the elements of a list bring, in order; the first element has number n
 abbrev pub gathered : {X : Type 0} → (ℕ → X → Option Arrival) → ℕ → List X → List Arrival
 gathered brings n [] = []
 gathered brings n (x ∷ xs) = option_to_list (brings n x) ++ gathered brings (suc n) xs
 
--- PLACES AND ARRIVALS, each made in one way
+-- PLACES AND ARRIVALS
 
--- a weight and an origin, brought to an edge
+-- an inference: the edge is its conclusion, and the origin names its premises
 abbrev pub arriving : Edge → ℕ → Origin → Arrival
 arriving e w o = record { edge = e; weight = w; origin = o }
 
--- a new edge is open
+-- the place of an edge that arrives for the first time
 abbrev pub fresh : Arrival → Place
 fresh a = record { edge = a.edge; weight = a.weight; origin = a.origin; finished = None }
 
--- room that no edge has taken
+-- what stands where no edge is yet
 abbrev pub unused : Place
 unused = fresh (arriving (Passive 0 0 0) 0 (FromWord 0))
 
--- another weight and origin
+-- a decreased key: the inference is replaced by a lighter one
 abbrev pub lightened : Arrival → Place → Place
 lightened a p = record p { weight = a.weight; origin = a.origin }
 
--- the edge finished, with its number
+-- finished, with this number in the order of finishing
 abbrev pub ended : ℕ → Place → Place
 ended number p = record p { finished = Some number }
 
--- the edge at place n
+-- the entry of place n
 abbrev pub seen : ℕ → Place → Standing
 seen n p = record { at = n; edge = p.edge; weight = p.weight }
 
--- the same, if it is finished
+-- the same, for a finished place only
 abbrev pub standing : ℕ → Place → Option Standing
 standing n p = elim p.finished [ None ↦ None | Some m ↦ Some (seen n p) ]
 
 -- AN ARRIVAL
 
--- at its edge's place: a lighter weight replaces weight and origin while the edge is open
+-- at its own place: decrease-key if it is open and the arrival lighter, else no change
 abbrev pub improved : (ℕ → ℕ → Bool) → Arrival → Place → Place
 improved lighter a p = elim (is_open p.finished && lighter a.weight p.weight) [ true ↦ lightened a p | false ↦ p ]
 
--- at the edge's place, or at the next free one
+-- insert or decrease-key
 abbrev pub placed : (ℕ → ℕ → Bool) → Arrival → List Place → List Place
 placed lighter a [] = fresh a ∷ []
 placed lighter a (p ∷ ps) = elim (same_edge p.edge a.edge) [ true ↦ improved lighter a p ∷ ps | false ↦ p ∷ placed lighter a ps ]
 
--- a new edge that finds no place among so many makes the chart full, and nothing arrives at a full chart
+-- a new edge beyond the capacity is dropped, and makes the chart full; a full chart takes no arrival
 abbrev pub arrive : ℕ → (ℕ → ℕ → Bool) → Chart → Arrival → Chart
 arrive capacity lighter c a =
     elim c.full [
@@ -110,25 +110,25 @@ arrive_all capacity lighter c as' = fold (arrive capacity lighter) c as'
 
 -- OPENING
 
--- word number n brings its weight to its symbol over its stretch
+-- word n is an axiom
 abbrev pub word_brings : Weights → ℕ → Word → Option Arrival
 word_brings ws n w = Some (arriving (Passive w.symbol w.from w.to) (ws.weigh w.mark) (FromWord n))
 
--- rule number n brings its weight to its left at node i, if it has no right symbols
+-- an empty rule n is an axiom at each node i
 abbrev pub empty_brings : Weights → ℕ → ℕ → Rule → Option Arrival
 empty_brings ws i n r =
     elim r.right [ [] ↦ Some (arriving (Passive r.left i i) (ws.weigh r.mark) (Empty n)) | x ∷ xs ↦ None ]
 
--- the same at node i and the nodes after it, so many in all
+-- the same at `count` nodes, the first of them i
 abbrev pub nodes_bring : Weights → List Rule → ℕ → ℕ → List Arrival
 nodes_bring ws rules i zero = []
 nodes_bring ws rules i (suc count) = gathered (empty_brings ws i) 0 rules ++ nodes_bring ws rules (suc i) count
 
--- the words in order, and then, node by node, the rules without right symbols in order
+-- all axioms: words, then empty rules, sorted by node and then by rule
 abbrev pub first_arrivals : Task → List Arrival
 first_arrivals t = gathered (word_brings t.weights) 0 t.words ++ nodes_bring t.weights t.rules 0 (suc t.last)
 
--- the chart before anything has arrived
+-- the empty chart
 abbrev pub blank : Chart
 blank = record { places = []; full = false; finished = 0 }
 
@@ -137,32 +137,32 @@ opened t capacity = arrive_all capacity t.weights.lighter blank (first_arrivals 
 
 -- A STEP
 
--- the lightest open edge so far, or a later one if that is lighter
+-- the lighter of two open edges, the former in a tie
 abbrev pub lighter_of : (ℕ → ℕ → Bool) → Option Standing → Standing → Option Standing
 lighter_of lighter None s = Some s
 lighter_of lighter (Some best) s = elim (lighter s.weight best.weight) [ true ↦ Some s | false ↦ Some best ]
 
--- the lightest so far, with what stands at one place more
+-- the lightest so far, after one place more
 abbrev pub lightest_with : (ℕ → ℕ → Bool) → Option Standing → ℕ × Place → Option Standing
 lightest_with lighter best (n, p) = elim (is_open p.finished) [ true ↦ lighter_of lighter best (seen n p) | false ↦ best ]
 
--- the lightest open edge, at the lowest place among equals
+-- the head of the agenda; ties go to the place with the lower number
 abbrev pub lightest_open : (ℕ → ℕ → Bool) → List Place → Option Standing
 lightest_open lighter ps = fold (lightest_with lighter) None (enumerate_from 0 ps)
 
--- the edge at a place finished
+-- place n finished
 abbrev pub finish : ℕ → ℕ → List Place → List Place
 finish number n ps = modified (ended number) n ps
 
--- rule n with its first k symbols over a stretch; with all of them, its left symbol
+-- the edge of rule n over [i, j], the dot after k symbols: active, or passive once the dot is at the end
 abbrev pub reached : ℕ → Rule → ℕ → ℕ → ℕ → Edge
 reached n r k i j = elim (k == length r.right) [ true ↦ Passive r.left i j | false ↦ Active n k i j ]
 
--- whether the symbol after the first k of a right side is x
+-- x follows the dot
 abbrev pub wants : List ℕ → ℕ → ℕ → Bool
 wants right k x = elim (slice_get right k) [ None ↦ false | Some y ↦ nat_eq y x ]
 
--- a rule whose first right symbol is x takes x[i,j], of weight w at place b
+-- bottom-up rule start: the premise is x[i, j], of weight w at place b
 abbrev pub rule_takes : Weights → ℕ → Rule → ℕ → ℕ → ℕ → ℕ → ℕ → Option Arrival
 rule_takes ws n r b x i j w =
     elim (wants r.right 0 x) [
@@ -170,16 +170,16 @@ rule_takes ws n r b x i j w =
       | false ↦ None
     ]
 
--- what rule n brings if it begins with a finished edge
+-- the start of rule n with a finished edge, if that is its first child
 abbrev pub rule_brings : Weights → Standing → ℕ → Rule → Option Arrival
 rule_brings ws s n r = elim s.edge [ Passive x i j ↦ rule_takes ws n r s.at x i j s.weight | Active m k i j ↦ None ]
 
--- rule n with k symbols from h, of weight v at place a, takes x up to l, of weight w at place b, if it wants x next
+-- fundamental rule: the premises are rule n from h, the dot after k symbols (weight v, place a), and x up to l (w, b)
 abbrev pub active_takes : Weights → ℕ → Rule → ℕ → ℕ → ℕ → ℕ → ℕ → ℕ → ℕ → ℕ → Option Arrival
 active_takes ws n r k h a v b x l w =
     elim (wants r.right k x) [ true ↦ Some (arriving (reached n r (suc k) h l) (ws.join v w) (Next a b)) | false ↦ None ]
 
--- an active edge that ends where a passive one starts takes it
+-- the same for two edges, the first active, the second its passive neighbour
 abbrev pub edge_takes : List Rule → Weights → ℕ → ℕ → Edge → ℕ → ℕ → Edge → Option Arrival
 edge_takes rules ws a v (Passive y i j) b w e = None
 edge_takes rules ws a v (Active n k h g) b w (Active m q i j) = None
@@ -189,27 +189,27 @@ edge_takes rules ws a v (Active n k h g) b w (Passive x i j) =
 abbrev pub takes : List Rule → Weights → Standing → Standing → Option Arrival
 takes rules ws p q = edge_takes rules ws p.at p.weight p.edge q.at q.weight q.edge
 
--- what the edge at place n brings if it is finished and meets a finished edge, as the active one or as the passive one
+-- the fundamental rule between a finished edge and that at place n, either of which may be the active one
 abbrev pub place_brings : List Rule → Weights → Standing → ℕ → Place → Option Arrival
 place_brings rules ws s n p = elim (standing n p) [ None ↦ None | Some q ↦ option_or (takes rules ws q s) (takes rules ws s q) ]
 
--- all that follows from an edge that has been finished: by the rules in order, and then by the places in order
+-- the conclusions with a newly finished premise: rule starts by rule, then the fundamental rule by place
 abbrev pub arrivals : Task → Standing → List Place → List Arrival
 arrivals t s ps = gathered (rule_brings t.weights s) 0 t.rules ++ gathered (place_brings t.rules t.weights s) 0 ps
 
--- the chart with the edge at place n finished, before anything has followed from it
+-- place n finished, its conclusions still to come
 abbrev pub finishing : Chart → ℕ → Chart
 finishing c n = record { places = finish (suc c.finished) n c.places; full = c.full; finished = suc c.finished }
 
--- and with all that follows from it
+-- and its conclusions arrived
 abbrev pub completed : Task → ℕ → Chart → Standing → Chart
 completed t capacity c s = let d = finishing c s.at in arrive_all capacity t.weights.lighter d (arrivals t s d.places)
 
--- how many edges are finished; 10 at a full chart
+-- the count of finished edges; 10 if the chart is full
 abbrev pub counted : Chart → Result ℕ ℕ
 counted c = elim c.full [ true ↦ Err 10 | false ↦ Ok c.finished ]
 
--- finishes the lightest open edge; a full chart, and one without open edges, stays as it is
+-- pop the lightest and infer; nothing happens if the chart is full or the agenda empty
 abbrev pub step : Task → ℕ → Chart → Chart
 step t capacity c =
     elim c.full [
@@ -217,7 +217,7 @@ step t capacity c =
       | false ↦ elim (lightest_open t.weights.lighter c.places) [ None ↦ c | Some s ↦ completed t capacity c s ]
     ]
 
--- how many edges are then finished; 10 at a full chart and by a step that makes it full, 11 where nothing is open
+-- the count after the step; 10 if the chart is full before or after it, 11 if the agenda is empty
 abbrev pub step_answer : Task → ℕ → Chart → Result ℕ ℕ
 step_answer t capacity c =
     elim c.full [
@@ -225,49 +225,49 @@ step_answer t capacity c =
       | false ↦ elim (lightest_open t.weights.lighter c.places) [ None ↦ Err 11 | Some s ↦ counted (completed t capacity c s) ]
     ]
 
--- shut, since a number of steps that is written out would unfold in every proof that sees it
+-- opaque: a literal number of steps would unfold in every proof that sees it
 unfoldable pub steps : Task → ℕ → ℕ → Chart → Chart
 steps t capacity zero c = c
 steps t capacity (suc n) c = steps t capacity n (step t capacity c)
 
 -- SETTLING
 
--- no step can change the chart any more: it is full, or nothing is open
+-- full, or with an empty agenda: every step is refused
 abbrev pub stopped : Task → Chart → Bool
 stopped t c = c.full || is_none (lightest_open t.weights.lighter c.places)
 
--- by which number such a chart refuses a step
+-- the number by which it refuses
 abbrev pub stop_number : Chart → ℕ
 stop_number c = elim c.full [ true ↦ 10 | false ↦ 11 ]
 
--- steps until one is refused; no chart takes more of them than it has room for edges, and further ones change nothing
+-- `capacity` steps, which are enough: each that is not refused finishes an edge, and refused ones are harmless
 abbrev pub settled : Task → ℕ → Chart → Chart
 settled t capacity c = steps t capacity capacity c
 
 -- QUESTIONS
 
--- the weight of a finished edge
+-- the weight of an edge, if it is finished
 abbrev pub carried : Edge → List Place → Option ℕ
 carried e [] = None
 carried e (p ∷ ps) =
     elim (same_edge p.edge e) [ true ↦ elim (is_open p.finished) [ true ↦ None | false ↦ Some p.weight ] | false ↦ carried e ps ]
 
--- the edge of a phrase
+-- a phrase as a passive edge
 abbrev pub edge_of : Phrase → Edge
 edge_of p = Passive p.symbol p.from p.to
 
--- whether the stretch of a phrase runs forward, or stays, up to the last node
+-- from ≤ to ≤ last
 abbrev pub is_within : ℕ → Phrase → Bool
 is_within last p = nat_le p.from p.to && nat_le p.to last
 
--- the weight of a phrase: 7 where the lattice has no such stretch, 8 for an edge that is not finished
+-- what a working chart answers: a weight, 7 (no such span), or 8 (not finished)
 abbrev pub working_answer : Task → Chart → Phrase → Result ℕ ℕ
 working_answer t c p = elim (is_within t.last p) [ true ↦ ok_or (carried (edge_of p) c.places) 8 | false ↦ Err 7 ]
 
--- by which number a settled chart refuses an edge that is not finished: 10 if it is full, and 9 if it is not
+-- in place of 8, a settled chart refuses by 10 (full) or 9 (no derivation)
 abbrev pub missing_number : Chart → ℕ
 missing_number c = elim c.full [ true ↦ 10 | false ↦ 9 ]
 
--- a settled chart answers likewise
+-- what it answers: a weight, 7, 9 or 10
 abbrev pub settled_answer : Task → Chart → Phrase → Result ℕ ℕ
 settled_answer t c p = elim (is_within t.last p) [ true ↦ ok_or (carried (edge_of p) c.places) (missing_number c) | false ↦ Err 7 ]

@@ -1,4 +1,4 @@
--- Readings: the nodes that a chart's origins name, and what they leave in a caller's list. Assumes nothing.
+-- Readings: the derivation that origins spell out, and how it is written into a list. Assumes nothing.
 use Rattle.std.specs.Prelude.{◌≡◌, ℕ, zero, suc, true, false, List, [], ◌∷◌, ◌++◌, length, Some, None, Ok, Err, Result, nat_le}
 use Rattle.std.specs.List.{slice_get}
 use Rattle.chart_model.specs.Task.{Task}
@@ -14,7 +14,7 @@ use Rattle.chart_model.specs.declared.node.Node.{Node}
 use Rattle.chart_model.specs.declared.phrase.Phrase.{Phrase}
 use Rattle.chart_model.specs.declared.place.Place.{Place}
 
--- the rule of an active edge; 0 for a passive one, which is never asked for
+-- the rule of an active edge; 0 for a passive one, for which no use asks
 abbrev pub rule_of : Edge → ℕ
 rule_of (Passive x i j) = 0
 rule_of (Active n k i j) = n
@@ -22,19 +22,19 @@ rule_of (Active n k i j) = n
 abbrev pub rule_at : List Place → ℕ → ℕ
 rule_at ps n = elim (slice_get ps n) [ None ↦ 0 | Some p ↦ rule_of p.edge ]
 
--- the nodes that an edge's origin names, given those that each place names
+-- the nodes of an edge by its origin, given those of the places that the origin names
 abbrev pub named : List Place → (ℕ → List Node) → Edge → Origin → List Node
 named ps below e (FromWord n) = word_node e n
 named ps below e (Empty n) = headed e n []
 named ps below e (First r child) = headed e r (below child)
 named ps below e (Next active child) = headed e (rule_at ps active) (below active ++ below child)
 
--- the nodes of the edge at a place, its origins followed to a depth
+-- the nodes of place n, by origins up to a depth
 abbrev pub followed : ℕ → List Place → ℕ → List Node
 followed zero ps n = []
 followed (suc depth) ps n = elim (slice_get ps n) [ None ↦ [] | Some p ↦ named ps (followed depth ps) p.edge p.origin ]
 
--- no chain of origins is longer than the chart
+-- as deep as there are places, which is deep enough
 abbrev pub reading_at : List Place → ℕ → List Node
 reading_at ps n = followed (length ps) ps n
 
@@ -42,8 +42,7 @@ reading_at ps n = followed (length ps) ps n
 abbrev pub reading : List Place → Edge → List Node
 reading ps e = elim (place_of e ps) [ None ↦ [] | Some n ↦ reading_at ps n ]
 
--- THE LAW OF READINGS: what the origins of a finished symbol name is the listing of a derivation of it,
--- of the weight that it carries
+-- THE LAW OF READINGS: the nodes of a finished passive edge are those of one of its derivations, of just its weight
 abbrev pub LawOfReadings : Task → Type 0
 LawOfReadings t =
     (c : Chart) → Reached t c → (p : Phrase) (w : ℕ) → Carries c (edge_of p) w →
@@ -51,22 +50,22 @@ LawOfReadings t =
 
 -- WRITTEN INTO A LIST
 
--- nodes over a list from its front, as many as it has room for
+-- nodes written over the front of a list, cut where the list ends
 abbrev pub over : List Node → List Node → List Node
 over [] before = before
 over (n ∷ ns) [] = []
 over (n ∷ ns) (b ∷ before) = n ∷ over ns before
 
--- how many nodes are written, where there is room for all; 12 where there is not
+-- their number if they fit, else 12
 abbrev pub fitting : ℕ → List Node → Result ℕ ℕ
 fitting room ns = elim (nat_le (length ns) room) [ true ↦ Ok (length ns) | false ↦ Err 12 ]
 
--- how many nodes the reading of a phrase has: refused as a question is, and with 12 if the list has no room for all
+-- what a reading answers: the number of nodes, 12, or the refusal of the question
 abbrev pub reading_answer : Task → Chart → Phrase → ℕ → Result ℕ ℕ
 reading_answer t c p room =
     elim (settled_answer t c p) [ Ok w ↦ fitting room (reading c.places (edge_of p)) | Err number ↦ Err number ]
 
--- what the list is then: a refusal as a question's leaves it
+-- what it leaves in the list, which a refused question does not touch
 abbrev pub reading_list : Task → Chart → Phrase → List Node → List Node
 reading_list t c p before =
     elim (settled_answer t c p) [ Ok w ↦ over (reading c.places (edge_of p)) before | Err number ↦ before ]

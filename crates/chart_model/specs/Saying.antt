@@ -1,4 +1,4 @@
--- What the answers of charts, by the numbers of their refusals, say of derivations. Assumes nothing.
+-- What each answer of a chart says of derivations: weights and refusals by number. Assumes nothing.
 use Rattle.std.specs.Prelude.{◌≡◌, ℕ, ◌<◌, ◌≤◌, ◌↔◌, ◌⊎◌, List, ◌++◌, length, take, drop, Ok, Err, Result}
 use Rattle.chart_model.specs.Task.{Task}
 use Rattle.chart_model.specs.Derivation.{Derives, LiesWithin, Tree, tree_weight}
@@ -11,34 +11,34 @@ use Rattle.chart_model.specs.declared.phrase.Phrase.{Phrase}
 
 -- QUESTIONS
 
--- the lattice has the stretch of a phrase
+-- the span of the phrase is one of the lattice
 abbrev pub Lies : Task → Phrase → Type 0
 Lies t p = LiesWithin t.last (edge_of p)
 
--- what an answer to a question says, whatever chart gives it
+-- what any chart's answer to a question says
 pub record Tells (t : Task) (c : Chart) (p : Phrase) (answer : Result ℕ ℕ) : Type 0 where
-  -- 7 exactly where the stretch runs back, or past the last node
+  -- 7 ⇔ no such span
   pub stretch : (answer ≡ Err 7) ↔ (Lies t p → ⊥)
-  -- a weight exactly where the edge is finished and carries it
+  -- a weight ⇔ finished at that weight
   pub finished : (w : ℕ) → (answer ≡ Ok w) ↔ Carries c (edge_of p) w
-  -- the edge has a derivation of that weight, and none is lighter
+  -- which is attained, and the least
   pub derived : (w : ℕ) → answer ≡ Ok w → Weighs t (edge_of p) w
   pub least : (w : ℕ) → answer ≡ Ok w → NoneLighter t (edge_of p) w
 
--- what a working chart's answer says
+-- what a working chart's answer says besides
 pub record WorkingSays (t : Task) (c : Chart) (p : Phrase) (answer : Result ℕ ℕ) : Type 0 where
   pub tells : Tells t c p answer
-  -- 8 exactly where the edge is not finished, within the lattice
+  -- 8 ⇔ in the lattice, and not finished
   pub not_finished : (answer ≡ Err 8) ↔ (Lies t p × Unfinished c (edge_of p))
   -- and no other number
   pub refusals : (number : ℕ) → answer ≡ Err number → (number ≡ 7) ⊎ (number ≡ 8)
 
--- what the answer of a settled chart with room for so many edges says
+-- what the answer of a settled chart of this capacity says besides
 pub record SettledSays (t : Task) (capacity : ℕ) (c : Chart) (p : Phrase) (answer : Result ℕ ℕ) : Type 0 where
   pub tells : Tells t c p answer
-  -- 10 exactly where the edge is not finished and more edges have derivations than there is room for
+  -- 10 ⇔ in the lattice, not finished, and derivable edges exceed the capacity
   pub full : (answer ≡ Err 10) ↔ (Lies t p × Unfinished c (edge_of p) × Over t capacity)
-  -- 9 exactly where it has no derivation, and no more edges have derivations than there is room for
+  -- 9 ⇔ in the lattice, not derivable, and derivable edges do not exceed it
   pub no_derivation : (answer ≡ Err 9) ↔ (Lies t p × (Over t capacity → ⊥) × (Derives t (edge_of p) → ⊥))
   -- and no other number
   pub refusals : (number : ℕ) → answer ≡ Err number → (number ≡ 7) ⊎ ((number ≡ 9) ⊎ (number ≡ 10))
@@ -49,31 +49,31 @@ pub record SettledSays (t : Task) (capacity : ℕ) (c : Chart) (p : Phrase) (ans
 abbrev pub TreeOf : Task → Phrase → Type 0
 TreeOf t p = Tree t p.symbol p.from p.to
 
--- all nodes of a derivation are in the list, before what else was there
+-- the list begins with all n nodes of the derivation, and is as it was after them
 abbrev pub AllListed : {t : Task} {p : Phrase} → TreeOf t p → List Node → List Node → ℕ → Type 0
 AllListed d before after n = (n ≡ length (tree_nodes d)) × (n ≤ length before) × (after ≡ tree_nodes d ++ drop n before)
 
--- the list has no room for all of them, and has the first
+-- the list is too short, and holds as many of the nodes as fit
 abbrev pub FirstListed : {t : Task} {p : Phrase} → TreeOf t p → List Node → List Node → Type 0
 FirstListed d before after = (length before < length (tree_nodes d)) × (after ≡ take (length before) (tree_nodes d))
 
--- what a reading answers and leaves, by what a question is answered:
--- beside a weight, the nodes of a derivation of just that weight, or 12; beside a refusal, the same refusal and the list as it was
+-- what a reading answers and leaves: where a question answers `Ok w`, a derivation of weight w, whole or cut (12);
+-- where it is refused, the same refusal and an untouched list
 abbrev pub Written : (t : Task) (p : Phrase) → List Node → List Node → Result ℕ ℕ → Result ℕ ℕ → Type 0
 Written t p before after (Ok w) (Ok n) = (d : TreeOf t p) × (tree_weight d ≡ w) × AllListed d before after n
 Written t p before after (Ok w) (Err number) = (d : TreeOf t p) × (tree_weight d ≡ w) × FirstListed d before after × (number ≡ 12)
 Written t p before after (Err refusal) answer = (answer ≡ Err refusal) × (after ≡ before)
 
--- what a settled chart's reading says: what an answer to the question says, and that it was written so
+-- what a settled chart's reading says: all that the answer to the question says, and what was written
 abbrev pub ReadingSays : Task → ℕ → Chart → Phrase → List Node → List Node → Result ℕ ℕ → Type 0
 ReadingSays t capacity c p before after answer = (asked : Result ℕ ℕ) × SettledSays t capacity c p asked × Written t p before after asked answer
 
--- THE LAW OF ANSWERS: what charts that opening and steps lead to answer is true, and exact
+-- THE LAW OF ANSWERS: every answer of a reachable chart means what is said above
 pub record LawOfAnswers (t : Task) : Type 0 where
   pub working : (c : Chart) → Reached t c → (p : Phrase) → WorkingSays t c p (working_answer t c p)
-  -- where a chart with room for so many edges takes no step any more
+  -- of a settled chart
   pub settled : (capacity : ℕ) (c : Chart) → Rests t capacity c → (p : Phrase) →
       SettledSays t capacity c p (settled_answer t c p)
-  -- and over every list of the caller's
+  -- into any list
   pub read : (capacity : ℕ) (c : Chart) → Rests t capacity c → (p : Phrase) (before : List Node) →
       ReadingSays t capacity c p before (reading_list t c p before) (reading_answer t c p (length before))

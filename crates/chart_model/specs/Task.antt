@@ -1,4 +1,4 @@
--- What a chart is opened over, by meaning. Assumes nothing.
+-- Tasks: what a grammar, a lattice and a weighing mean together. Assumes nothing.
 use Rattle.std.specs.Prelude.{ℕ, List}
 use Rattle.weighing.specs.Laws.{Weights, Lawful}
 use Rattle.grammar.specs.Rules as grammar
@@ -6,14 +6,14 @@ use Rattle.grammar.specs.Rules.{Rule}
 use Rattle.lattice.specs.Words as lattice
 use Rattle.lattice.specs.declared.word.Word.{Word}
 
--- the rules of a grammar, the last node and the words of a lattice, and the weights of a weighing
+-- a grammar's rules, a lattice's nodes and words, and a weighing's functions
 pub record Task : Type 0 where
   pub rules : List Rule
   pub last : ℕ
   pub words : List Word
   pub weights : Weights
 
--- what every grammar, lattice and weighing shows of itself
+-- what implementations of the three traits prove
 pub record Sound (t : Task) : Type 0 where
   pub grammar : grammar.Limits t.rules
   pub lattice : lattice.Limits t.last t.words

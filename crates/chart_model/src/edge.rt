@@ -1,16 +1,15 @@
-// Edges: what a chart finds over stretches of the lattice.
-// A stretch is written out, from a node to a node, and is no type of its own: definitions and laws speak of its two ends one
-// by one, as joining edges does.
+// Edges: the items of a chart, passive and active.
 
-/// A passive edge is a symbol over a stretch, from a node to a node.
-/// An active edge is a rule with its first `seen` right symbols, at least one and not all of them, over a stretch.
+/// An item of a chart over a span, which goes from a node to the same or a later one.
 #[derive(Clone, Copy, PartialEq, Eq, Debug)]
 pub enum Edge {
+    /// A symbol, complete.
     Passive {
         symbol: u8,
         from: u8,
         to: u8,
     },
+    /// A rule of which the first `seen` right symbols are complete: at least one, and not all.
     Active {
         rule: u8,
         seen: u8,

@@ -1,4 +1,4 @@
-// What a chart is and does, and what it says of derivations: definitions, and the laws proved of them.
+// The theory of charts: derivations, the plain chart, and the laws that connect them.
 #![tactic(auto)]
 
 ghost use Rattle.std.specs.Prelude.{◌≡◌, ℕ};
@@ -15,28 +15,28 @@ pub mod origin;
 pub mod phrase;
 pub mod place;
 
-/// The law of the lightest, for every grammar, lattice and weighing.
+/// The law of the lightest, of every sound task.
 pub fn lightest_law()
     ensures { (t : Task) → Sound t → LawOfTheLightest t }
 {}
 
-/// Every chart that opening and steps lead to keeps the invariant of origins.
+/// Origins of every reachable chart name inferences whose premises were finished first.
 pub fn origins_law()
     ensures { (t : Task) → Sound t → (c : Chart) → Reached t c → Grounded t c }
 {}
 
-/// What the origins of a finished symbol name lists a derivation of the weight that it carries, in every such chart.
+/// Origins of every reachable chart spell out a derivation of each finished passive edge, of just its weight.
 pub fn readings_law()
     ensures { (t : Task) → Sound t → LawOfReadings t }
 {}
 
-/// What such a chart answers to questions and readings is true of all derivations, and exact.
+/// Answers of every reachable chart to questions and readings mean what `Saying` defines.
 pub fn answers_law()
     ensures { (t : Task) → Sound t → LawOfAnswers t }
 {}
 
-/// Where it is only known that a chart is led to, it is known how: with room for so many edges at each call, by as many steps as
-/// it has finished edges.
+/// How a reachable chart came about can be found from the chart itself: by as many steps as it has finished edges, all with
+/// a capacity that it fits.
 pub fn reaching_law()
     ensures again { (t : Task) (c : Chart) → ∥ Reached t c ∥₁ → Reached t c }
     ensures room { (t : Task) (capacity : ℕ) (c : Chart) → Reached t c → Fits capacity c →

@@ -1,20 +1,25 @@
-// One node of a reading: a word of the lattice or a rule of the grammar, by its number, over a stretch.
-// The kind stands beside the number, and not around it: a caller's list is of records of four fields, one form for both kinds.
+// The nodes of which a reading consists.
 use std::fmt;
 
+/// What a node of a derivation is.
 #[derive(Clone, Copy, Default, PartialEq, Eq, Debug)]
 pub enum Kind {
+    /// A leaf: a word of the lattice.
     #[default]
     Word,
+    /// A rule of the grammar, whose children come after it in the list.
     Rule,
 }
 
-/// A default node stands in room that no node has taken yet.
+/// A word or a rule over a span, by its number. A default node fills room that no reading has written to.
 #[derive(Clone, Copy, Default, PartialEq, Eq, Debug)]
 pub struct Node {
     pub kind: Kind,
+    /// The number of the word in its lattice, or of the rule in its grammar, from 0.
     pub number: u8,
+    /// The node of the lattice where the span begins.
     pub from: u8,
+    /// The node of the lattice where it ends.
     pub to: u8,
 }
 
@@ -33,7 +38,7 @@ impl fmt::Display for Kind {
     }
 }
 
-// One line without its line feed.
+// One line of the program's output, without its line feed.
 impl fmt::Display for Node {
     ghost use Rattle.std.specs.Prelude.{Some};
     ghost use Rattle.chart_model.specs.Telling.{node_text};

@@ -1,12 +1,14 @@
-// Where the weight of an edge came from.
+// Origins: the inferences by which edges got their weights.
 
-/// A word of the lattice; a rule without right symbols; a rule and the place of its first child;
-/// or the places of an active edge and of the child that it took next.
-/// Places are named by their numbers: a chart lives in fixed memory, without a heap.
+/// The lightest inference of an edge so far. Words and rules go by their numbers, premises by their places in the chart.
 #[derive(Clone, Copy, PartialEq, Eq, Debug)]
 pub enum Origin {
+    /// A word of the lattice.
     Word(u8),
+    /// A rule without right symbols.
     Empty(u8),
+    /// The start of a rule with its first child.
     First { rule: u8, child: u16 },
+    /// The fundamental rule: an active edge and the child that it wanted next.
     Next { active: u16, child: u16 },
 }

@@ -1,22 +1,22 @@
-// The places of a chart, each with an edge, and what comes to them.
+// Places of a chart, and the arrivals that fill them and make them lighter.
 ghost use Rattle.std.specs.Prelude.{◌≡◌};
 ghost use Rattle.chart_model.specs.Plain.{arriving, unused, fresh, lightened, ended, seen, is_open};
 
 use crate::edge::Edge;
 use crate::origin::Origin;
 
-/// Edge, weight and origin are those of the lightest arrival so far. They are written out, and not an arrival in the place: what
-/// stands at a place is spoken of everywhere, and that it once arrived in one line.
-/// A finished edge has its number in the order of finishing, from 1; one without a number is open, and may still get lighter.
+/// An edge of a chart, with the lightest of its arrivals so far.
 #[derive(Clone, Copy, PartialEq, Eq, Debug)]
 pub struct Place {
     pub edge: Edge,
+    /// A code of the chart's weighing.
     pub weight: u64,
     pub origin: Origin,
+    /// The position in the order of finishing, from 1; none while the edge is open.
     pub finished: Option<u16>,
 }
 
-/// A weight and an origin, brought to an edge.
+/// The conclusion of an inference: an edge, the weight that it has by it, and the premises as its origin.
 #[derive(Clone, Copy, PartialEq, Eq, Debug)]
 pub struct Arrival {
     pub edge: Edge,
@@ -24,16 +24,17 @@ pub struct Arrival {
     pub origin: Origin,
 }
 
-/// An edge, with its place and its weight.
+/// An entry of a chart: an edge with its place and its weight.
 #[derive(Clone, Copy, PartialEq, Eq, Debug)]
 pub struct Standing {
+    /// The number of the place, from 0.
     pub at: u16,
     pub edge: Edge,
     pub weight: u64,
 }
 
 impl Arrival {
-    /// A weight and an origin, brought to an edge.
+    /// The arrival of an edge at a weight.
     pub fn new(edge: Edge, weight: u64, origin: Origin) -> Self
         ensures { result ≡ arriving edge weight origin }
     {
@@ -45,7 +46,7 @@ impl Arrival {
     }
 }
 
-// What stands in room that no edge has taken yet.
+// What fills room that no edge has taken.
 impl Default for Place {
     ghost is_default = { λ place. place ≡ unused };
 
@@ -81,7 +82,7 @@ impl Place {
         self.finished.is_none()
     }
 
-    /// The edge, at place number `at`.
+    /// The entry, where the number of this place is `at`.
     pub fn seen(&self, at: u16) -> Standing
         ensures { result ≡ seen at self.now }
     {
@@ -92,7 +93,7 @@ impl Place {
         }
     }
 
-    /// Gives the edge another weight, and its origin.
+    /// Takes over the weight and the origin of an arrival; the edge stays.
     pub fn lighten(&mut self, arrival: Arrival)
         ensures { self.new ≡ lightened arrival self.old }
     {
@@ -100,7 +101,7 @@ impl Place {
         self.origin = arrival.origin;
     }
 
-    /// Gives the edge its number in the order of finishing.
+    /// Finishes the edge, as the one of this number in the order of finishing.
     pub fn finish(&mut self, number: u16)
         ensures { self.new ≡ ended number self.old }
     {

@@ -1,4 +1,4 @@
-// Tests of charts that run, over grammars and lattices of several kinds.
+// Tests of charts over grammars and lattices of several kinds.
 #![tactic(auto)]
 
 #[cfg(test)]

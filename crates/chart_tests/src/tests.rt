@@ -1,4 +1,4 @@
-// Readings: a loop, empties, lists that are too short, and refusals.
+// Tests of readings: a cycle, empty symbols, short lists, and refusals.
 use chart::read::{Listed, read};
 use chart::refusal::{ReadingRefusal, SettledRefusal};
 use chart::setting::Setting;
@@ -196,7 +196,7 @@ fn empties(rt: HostRuntime) -> Result<(), Fail> {
     Ok(())
 }
 
-// Symbol n is symbol n - 1 twice, down to a symbol that is empty: the reading of symbol 95 has 2^96 - 1 nodes.
+// Symbol n is symbol n - 1 twice, down to an empty one: the reading of symbol 95 has 2^96 - 1 nodes.
 #[test]
 fn more_nodes_than_can_be_counted(rt: HostRuntime) -> Result<(), Fail> {
     let mut rules = [rule(0, 0, 0, 0); 96];

@@ -1,10 +1,10 @@
--- What a grammar means: a list of rules, within limits. Assumes nothing.
+-- Context-free rules with marks, and the limits of a grammar. Assumes nothing.
 use Rattle.std.specs.Prelude.{◌≡◌, ℕ, ◌^◌, ◌≤◌, Bool, true, ◌&&◌, List, length, Some, None, Option, nat_le, nat_lt}
 use Rattle.std.specs.List.{slice_get}
 use Rattle.std.specs.Option.{option_map}
 use Rattle.std.specs.List.{list_all}
 
--- the left symbol derives the right symbols, in order; the mark says how doubtful that is
+-- left → right, at the cost of a mark
 pub record Rule : Type 0 where
   pub left : ℕ
   pub right : List ℕ
@@ -16,19 +16,19 @@ most_rules = 96
 abbrev pub most_symbols : ℕ
 most_symbols = 4
 
--- a rule has at most so many right symbols, and its mark has 16 bits
+-- a rule of a grammar; marks have 16 bits
 abbrev pub rule_within : Rule → Bool
 rule_within r = nat_le (length r.right) most_symbols && nat_lt r.mark (2 ^ 16)
 
 abbrev pub rules_within : List Rule → Bool
 rules_within rs = list_all rule_within rs
 
--- rules that make a grammar
+-- what rules have to be to make a grammar
 pub record Limits (rules : List Rule) : Type 0 where
   pub few : length rules ≤ most_rules
   pub within : rules_within rules ≡ true
 
--- what a rule, by its number, has; nothing past the last rule
+-- the fields of rule n; none past the last rule
 abbrev pub left_of : List Rule → ℕ → Option ℕ
 left_of rules n = option_map (λ r. r.left) (slice_get rules n)
 

@@ -1,4 +1,4 @@
--- What two surcharges in a row come to, rule by rule. Assumes nothing.
+-- Two penalties in a row, rule by rule. Assumes nothing.
 use Rattle.std.proofs.Common.{◌≡◌, ℕ, ◌+◌, min, List, [], ◌∷◌, refl, arith}
 use Rattle.std.specs.Prelude.{◌≢◌}
 use Rattle.std.proofs.lemmas.Grind.{common_steps}

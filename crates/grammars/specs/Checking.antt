@@ -1,4 +1,4 @@
--- Which rules are refused, by which number, and in which order that is tested. Assumes nothing.
+-- Which rules are refused, and by which number. Assumes nothing.
 use Rattle.std.specs.Prelude.{◌≡◌, ℕ, true, false, List, Some, None, Option, Result, nat_le}
 use Rattle.std.specs.Option.{option_map}
 use Rattle.std.specs.Result.{result_err}
@@ -10,15 +10,15 @@ use Rattle.grammars.specs.declared.fault.RuleFault.{RuleFault}
 use Rattle.grammars.specs.Faults.{too_many_rules, rule_number, told}
 use Rattle.grammar.specs.Rules.{most_rules, most_symbols}
 
--- 5 for a rule that is too long
+-- 5 if the rule is too long
 abbrev pub rule_refusal : RuleRecord → Option ℕ
 rule_refusal r = elim (nat_le r.length most_symbols) [ false ↦ Some 5 | true ↦ None ]
 
--- 6 for too many rules, before any is looked at; else the refusal of the first rule that has one, and its place
+-- 6 for too many rules; else that of the first rule that is refused, with its place
 abbrev pub rules_refusal : List RuleRecord → Option (ℕ × Option ℕ)
 rules_refusal rs = list_refusal most_rules too_many_rules rule_refusal rs
 
--- what the check of such a list tells (`Checked`), which is said there for all kinds of records
+-- the contract of `Checked`, read for rules
 pub check_tells_rules : {A : Type 0} (xs : List RuleRecord) (r : Result A (ListFault RuleFault)) →
     TellsRefusal most_rules too_many_rules rule_number rule_refusal xs r →
     option_map told (result_err r) ≡ rules_refusal xs

@@ -1,11 +1,11 @@
--- The grammar of spoken stock counts, and that it keeps to the limits. Assumes nothing.
+-- The rules of spoken stock counts. Assumes nothing.
 use Rattle.std.specs.Prelude.{ℕ, List, [], ◌∷◌, refl}
 use Rattle.std.proofs.Common.{lit≤}
 use Rattle.grammar.specs.Rules.{Rule, Limits}
 
 -- SYMBOLS
 
--- a whole line, a part of it, a number, and what may stand between two parts
+-- a line, a part of it, a number, and a gap between two parts
 abbrev pub line : ℕ
 line = 1
 
@@ -18,7 +18,7 @@ num = 3
 abbrev pub gap : ℕ
 gap = 4
 
--- the words that are spoken
+-- the spoken words
 abbrev pub one : ℕ
 one = 16
 

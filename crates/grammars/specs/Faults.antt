@@ -1,4 +1,4 @@
--- What the refusals of rules tell: their numbers, and the rule at fault. Assumes nothing.
+-- The numbers of the refusals of rules. Assumes nothing.
 use Rattle.std.specs.Prelude.{ℕ, Option}
 use Rattle.records.specs.declared.fault.ListFault.{ListFault}
 use Rattle.records.specs.Faults.{list_told}
@@ -8,10 +8,10 @@ use Rattle.grammars.specs.declared.fault.RuleFault.TheVariants.{TooLong}
 abbrev pub rule_number : RuleFault → ℕ
 rule_number TooLong = 5
 
--- the number of the refusal of too many rules
+-- the number for too many rules
 abbrev pub too_many_rules : ℕ
 too_many_rules = 6
 
--- the number of the refusal, and that of the rule at fault where it is one
+-- the number of a list's refusal, and the place of the rule where one is at fault
 abbrev pub told : ListFault RuleFault → ℕ × Option ℕ
 told fault = list_told too_many_rules rule_number fault

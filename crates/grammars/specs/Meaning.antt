@@ -8,7 +8,7 @@ use Rattle.grammars.specs.declared.surcharge.Surcharge.{Surcharge}
 use Rattle.grammars.specs.Records.{rules_of, records_limits}
 use Rattle.grammars.specs.Surcharges.{surcharged, surcharged_limits}
 
--- the records that a rule list was made of, and their rules
+-- the records of a rule list, and the rules that they stand for
 abbrev pub listed_records : RuleList → List RuleRecord
 listed_records list = list.checked.records.now
 
@@ -18,9 +18,9 @@ listed_rules list = rules_of (listed_records list)
 pub listed_keeps : (list : RuleList) → Limits (listed_rules list)
 listed_keeps list = records_limits list.checked.records.now list.checked.few list.checked.within
 
--- over any grammar below
+-- a layer over any grammar
 module _ {G : Type 0} {g : Ghosts G} where
-  -- its rules, those of one symbol made dearer
+  -- the rules below, with the penalty on those of its symbol
   abbrev pub surcharged_rules : Surcharge G g → List Rule
   surcharged_rules it = surcharged it.symbol it.extra (g.rules it.grammar)
 

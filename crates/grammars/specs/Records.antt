@@ -1,4 +1,4 @@
--- The rules that records stand for, and that records within their limits make a grammar. Assumes nothing.
+-- Rules in records, and that checked records make a grammar. Assumes nothing.
 use Rattle.std.specs.Prelude.{◌≡◌, ◌^◌, ◌≤◌, Bool, true, ◌&&◌, List, map, length, take, nat_le, nat_lt}
 use Rattle.std.proofs.Common.{arith, length-take}
 use Rattle.std.proofs.lemmas.List.{length-map}
@@ -8,14 +8,14 @@ use Rattle.records.proofs.Every.{every_map}
 use Rattle.grammars.specs.declared.rule.RuleRecord.{RuleRecord}
 use Rattle.grammar.specs.Rules.{Rule, most_rules, most_symbols, rule_within, Limits}
 
--- symbols past the length are ignored
+-- the symbols up to the length are the right side
 abbrev pub rule_of : RuleRecord → Rule
 rule_of r = record { left = r.left; right = take r.length r.symbols; mark = r.mark }
 
 abbrev pub rules_of : List RuleRecord → List Rule
 rules_of rs = map rule_of rs
 
--- a record is no longer than a rule may be, and its mark has 16 bits
+-- what the check of a record shows; marks have 16 bits
 abbrev pub record_within : RuleRecord → Bool
 record_within r = nat_le r.length most_symbols && nat_lt r.mark (2 ^ 16)
 

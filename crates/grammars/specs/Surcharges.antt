@@ -1,4 +1,4 @@
--- A surcharge on a symbol: more doubt on the rules that derive it. Assumes nothing.
+-- Penalties: more doubt on the rules of one left symbol. Assumes nothing.
 use Rattle.std.specs.Prelude.{◌≡◌, ◌≢◌, ℕ, ◌+◌, min, true, List, map, ◌==◌, if◌then◌else◌}
 use Rattle.std.proofs.Common.{arith}
 use Rattle.std.proofs.lemmas.List.{length-map}
@@ -9,24 +9,24 @@ use Rattle.grammar.specs.Rules.{Rule, rule_within, Limits}
 abbrev pub greatest_mark : ℕ
 greatest_mark = 65535
 
--- a rule with a mark raised by the extra, to the greatest mark at most
+-- saturating addition on the mark
 abbrev pub dearer : ℕ → Rule → Rule
 dearer extra r = record r { mark = min (r.mark + extra) greatest_mark }
 
--- the rules whose left is the symbol are dearer, the others as they were
+-- a rule under a penalty on this symbol
 abbrev pub raised : ℕ → ℕ → Rule → Rule
 raised symbol extra r = if r.left == symbol then dearer extra r else r
 
 abbrev pub surcharged : ℕ → ℕ → List Rule → List Rule
 surcharged symbol extra rules = map (raised symbol extra) rules
 
--- rules with a surcharge and without it: another on its symbol adds to the extra, up to the greatest mark
+-- two penalties on one symbol act as one: their saturating sum
 abbrev pub AddsUp : ℕ → ℕ → List Rule → List Rule → Type 0
 AddsUp symbol extra with without =
     (more : ℕ) →
     surcharged symbol more with ≡ surcharged symbol (min (extra + more) greatest_mark) without
 
--- rules with a surcharge and without it: one on any other symbol could as well lie below it
+-- penalties on different symbols commute
 abbrev pub Commutes : ℕ → ℕ → List Rule → List Rule → Type 0
 Commutes symbol extra with without =
     (other more : ℕ) → (other ≢ symbol) →

@@ -1,4 +1,4 @@
-// Rules that were checked: a grammar can be made of them without a refusal.
+// The check of rules, and lists of rules that passed it.
 ghost use Rattle.std.specs.Prelude.{◌≡◌, []};
 ghost use Rattle.grammar.specs.Rules.{most_rules};
 ghost use Rattle.grammars.specs.Records.{record_within};
@@ -9,7 +9,7 @@ use crate::rule::RuleRecord;
 use records::Record;
 use records::checked::Checked;
 
-// No rule has more right symbols than this.
+// The most right symbols of a rule.
 const MOST_SYMBOLS: u8 = 4;
 
 impl Record for RuleRecord {
@@ -31,12 +31,10 @@ impl Record for RuleRecord {
     }
 }
 
-/// Rules that were checked: at most 96, each with at most four right symbols.
+/// At most 96 rules, each of at most four right symbols.
 pub type CheckedRules<'a> = Checked<'a, RuleRecord>;
 
-// It is no `Default` of all checked lists: its must-fail edit puts a rule in, which a body for all kinds
-// cannot name.
-/// No rules yet.
+/// The list of no rules, which `check` may fill.
 pub fn no_rules<'a>() -> CheckedRules<'a>
     ensures { result.records.now ≡ [] }
 {

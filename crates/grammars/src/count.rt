@@ -1,4 +1,4 @@
-// The grammar of spoken stock counts: parts such as "two box" and "open one", with a gap between them.
+// The built-in grammar of spoken stock counts: lines of parts such as "two box" and "open one".
 ghost use Rattle.std.specs.Prelude.{◌≡◌};
 ghost use Rattle.grammars.specs.Count.{count_rules, count_limits};
 ghost use Rattle.grammars.specs.Meaning.{listed_rules};
@@ -17,7 +17,7 @@ pub const PART: u8 = 2;
 /// The symbol of a number.
 pub const NUM: u8 = 3;
 
-/// The symbol of what may stand between two parts.
+/// The symbol of a gap between two parts: nothing, or "um".
 pub const GAP: u8 = 4;
 
 /// The symbol of the word "one".
@@ -107,14 +107,14 @@ const RULES: [RuleRecord; 11] = [
     },
 ];
 
-// The rules as a list.
+// The rules as a grammar over records.
 fn table() -> RuleList<'static>
     ensures rules { listed_rules result ≡ count_rules }
 {
     RuleList::new(Checked { records: &RULES })
 }
 
-/// The eleven rules of spoken stock counts.
+/// The eleven rules of spoken stock counts, numbered 0 to 10.
 #[derive(Clone, Copy, PartialEq, Eq, Debug, Default)]
 pub struct CountGrammar;
 

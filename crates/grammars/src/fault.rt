@@ -1,17 +1,17 @@
-// What is wrong with rules that make no grammar. Each refusal has its number from one definition.
+// Why rules make no grammar: refusals 5 and 6.
 ghost use Rattle.grammars.specs.Faults.{rule_number, too_many_rules};
 
 use records::fault::{ListFault, RecordFault};
 use records::numbered::Numbered;
 
-/// What is wrong with one rule.
+/// Why a rule is refused.
 #[derive(Clone, Copy, PartialEq, Eq, Debug)]
 pub enum RuleFault {
-    /// 5: it has more than four right symbols.
+    /// 5: its length is above four.
     TooLong = 5,
 }
 
-// A case is its number. Each enum casts itself, since a cast of a type parameter is no Rust.
+// The number of a case is its discriminant.
 impl Numbered for RuleFault {
     ghost number = { rule_number };
 
@@ -26,5 +26,5 @@ impl RecordFault for RuleFault {
     const TOO_MANY: u8 = 6;
 }
 
-/// What is wrong with a list of rules: 6 for more than 96, or else the first rule at fault, from 0.
+/// Why a list of rules is refused: 6 for more than 96, else 5 with the place of the first rule at fault, from 0.
 pub type GrammarFault = ListFault<RuleFault>;

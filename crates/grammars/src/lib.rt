@@ -1,4 +1,4 @@
-// The grammars there are: over a caller's rules, the built-in stock counts, and a surcharge over any grammar.
+// Grammars: a caller's rules, the built-in stock counts, and a layer with a penalty over any grammar.
 #![tactic(auto)]
 
 pub mod checked;

@@ -9,7 +9,7 @@ use crate::checked::CheckedRules;
 use crate::rule::RuleRecord;
 use grammar::Grammar;
 
-/// The checked rules as they stand in the caller's list; symbols past a rule's length are ignored.
+/// The rules of a caller's list that passed the check, numbered by their places.
 #[derive(Drop)]
 pub struct RuleList<'a> {
     checked: CheckedRules<'a>,
@@ -18,7 +18,7 @@ pub struct RuleList<'a> {
 impl<'a> RuleList<'a> {
     ghost use Rattle.grammars.specs.Meaning.{listed_records, listed_rules};
 
-    /// The grammar of checked rules. Nothing is refused.
+    /// Makes a grammar of checked rules. Never refused.
     pub fn new(checked: CheckedRules<'a>) -> Self
         ensures records { listed_records result ≡ checked.entry.records.now }
         ensures rules { listed_rules result ≡ rules_of checked.entry.records.now }

@@ -1,24 +1,25 @@
-// A grammar over any other grammar, with more doubt on the rules of one left symbol.
+// A layer over any grammar that makes the rules of one left symbol more doubtful.
 ghost use Rattle.std.specs.Prelude.{◌≡◌, ◌≤◌, length};
 ghost use Rattle.grammar.specs.Rules.{most_rules};
 ghost use Rattle.grammars.specs.Surcharges.{surcharged, AddsUp, Commutes};
 
 use grammar::Grammar;
 
-/// Rules of the symbol have the extra on their marks, up to 65,535; all others are as they were.
+/// A grammar and a penalty on one of its left symbols. Marks of that symbol's rules grow by the penalty and saturate at
+/// 65,535; the rest is the grammar's own.
 #[derive(Drop)]
 pub struct Surcharge<G: Grammar> {
     grammar: G,
     symbol: u8,
     extra: u16,
-    // It names the rules below, so that definitions over the type can name them too.
+    // Names the rules below, for definitions over the type.
     ghost few: { length (G.rules grammar) ≤ most_rules },
 }
 
 impl<G: Grammar> Surcharge<G> {
     ghost use Rattle.grammars.specs.Meaning.{surcharged_rules};
 
-    /// A surcharge over a grammar. Nothing is refused.
+    /// Puts a penalty, 0 to 65,535, on the rules of a left symbol. Never refused.
     #[tactic(auto, using(crate::proofs::Surcharging::surcharges_add, crate::proofs::Surcharging::surcharges_commute))]
     pub fn new(grammar: G, symbol: u8, extra: u16) -> Self
         ensures rules { surcharged_rules result ≡ surcharged symbol extra (G.rules grammar) }

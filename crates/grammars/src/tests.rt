@@ -1,4 +1,4 @@
-// Rules at their limits, and piles of surcharges.
+// Tests of rules at their limits, and of penalties on penalties.
 use crate::checked::{CheckedRules, no_rules};
 use crate::count::*;
 use crate::fault::*;

@@ -1,4 +1,4 @@
--- Which words are refused, by which number, and in which order that is tested. Assumes nothing.
+-- Which words are refused, and by which number. Assumes nothing.
 use Rattle.std.specs.Prelude.{◌≡◌, ℕ, true, false, List, Some, None, Option, Result, nat_le}
 use Rattle.std.specs.Option.{option_map}
 use Rattle.std.specs.Result.{result_err}
@@ -10,7 +10,7 @@ use Rattle.lattice.specs.declared.fault.WordFault.{WordFault}
 use Rattle.lattice.specs.Faults.{too_many_words, word_number, told}
 use Rattle.lattice.specs.Words.{forward, greatest_node, most_words}
 
--- 1 for a word that breaks the law of its two ends, else 2 for one that ends past the greatest node
+-- 1 if the word does not point forward, else 2 if it passes the greatest node
 abbrev pub word_refusal : Word → Option ℕ
 word_refusal w =
     elim (forward w.from w.to) [
@@ -18,11 +18,11 @@ word_refusal w =
       | true ↦ elim (nat_le w.to greatest_node) [ false ↦ Some 2 | true ↦ None ]
     ]
 
--- 3 for too many words, before any is looked at; else the refusal of the first word that has one, and its place
+-- 3 for too many words; else that of the first word that is refused, with its place
 abbrev pub words_refusal : List Word → Option (ℕ × Option ℕ)
 words_refusal ws = list_refusal most_words too_many_words word_refusal ws
 
--- what the check of such a list tells (`Checked`), which is said there for all kinds of records
+-- the contract of `Checked`, read for words
 pub check_tells_words : {A : Type 0} (xs : List Word) (r : Result A (ListFault WordFault)) →
     TellsRefusal most_words too_many_words word_number word_refusal xs r →
     option_map told (result_err r) ≡ words_refusal xs

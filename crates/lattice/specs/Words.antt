@@ -1,26 +1,26 @@
--- What every word lattice keeps to. Assumes nothing.
+-- The limits of word lattices. Assumes nothing.
 use Rattle.std.specs.Prelude.{◌≡◌, ℕ, ◌^◌, ◌<◌, ◌≤◌, Bool, true, ◌&&◌, List, length, nat_le, nat_lt}
 use Rattle.std.proofs.Common.{arith}
 use Rattle.std.proofs.lemmas.Bool.{and_parts, leb-true, ltb-true}
 use Rattle.std.specs.List.{list_all}
 use Rattle.lattice.specs.declared.word.Word.{Word}
 
--- nodes are numbered from 0 to this one at most
+-- the greatest node of any lattice
 abbrev pub greatest_node : ℕ
 greatest_node = 31
 
 abbrev pub most_words : ℕ
 most_words = 128
 
--- the law of a word's two ends: it ends after it starts
+-- words point forward, so that a lattice is acyclic
 abbrev pub forward : ℕ → ℕ → Bool
 forward from to = nat_lt from to
 
--- a word keeps that law, ends by the last node, and its mark has 16 bits
+-- a word of a lattice with this last node; marks have 16 bits
 abbrev pub word_within : ℕ → Word → Bool
 word_within last w = forward w.from w.to && (nat_le w.to last && nat_lt w.mark (2 ^ 16))
 
--- what such a word keeps to, one by one; whoever stands above reads the law of the two ends off this
+-- the same as facts, which the crates above use in place of `forward`
 pub record WordLimits (last : ℕ) (w : Word) : Type 0 where
   pub forward : forward w.from w.to ≡ true
   pub ordered : w.from ≤ w.to
@@ -42,7 +42,7 @@ word_limits last w h =
 abbrev pub words_within : ℕ → List Word → Bool
 words_within last ws = list_all (word_within last) ws
 
--- a last node and words that make a lattice
+-- what a last node and words have to be to make a lattice
 pub record Limits (last : ℕ) (words : List Word) : Type 0 where
   pub short : last ≤ greatest_node
   pub few : length words ≤ most_words

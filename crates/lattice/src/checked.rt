@@ -1,4 +1,4 @@
-// Words that were checked: a lattice can be made of them without a refusal.
+// The check of words, and lists of words that passed it.
 ghost use Rattle.std.specs.Prelude.{◌≡◌, []};
 ghost use Rattle.lattice.specs.Words.{greatest_node, most_words, word_within};
 ghost use Rattle.lattice.specs.Checking.{word_refusal};
@@ -8,7 +8,7 @@ use crate::word::Word;
 use records::Record;
 use records::checked::Checked;
 
-/// No lattice has a node past this one.
+/// The greatest node of any lattice.
 pub const GREATEST_NODE: u8 = 31;
 
 impl Record for Word {
@@ -33,12 +33,10 @@ impl Record for Word {
     }
 }
 
-/// Words that were checked: at most 128, each running forward between nodes 0 to 31.
+/// At most 128 words, each of which leads to a later node, 31 at most.
 pub type CheckedWords<'a> = Checked<'a, Word>;
 
-// It is no `Default` of all checked lists: its must-fail edit puts a word in, which a body for all kinds
-// cannot name.
-/// No words yet.
+/// The list of no words, which `check` may fill.
 pub fn no_words<'a>() -> CheckedWords<'a>
     ensures { result.records.now ≡ [] }
 {

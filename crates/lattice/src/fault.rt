@@ -1,19 +1,19 @@
-// What is wrong with words that make no lattice. Each refusal has its number from one definition.
+// Why words make no lattice: refusals 1 to 3.
 ghost use Rattle.lattice.specs.Faults.{word_number, too_many_words};
 
 use records::fault::{ListFault, RecordFault};
 use records::numbered::Numbered;
 
-/// What is wrong with one word.
+/// Why a word is refused.
 #[derive(Clone, Copy, PartialEq, Eq, Debug)]
 pub enum WordFault {
-    /// 1: it does not end after it starts.
+    /// 1: it leads to no later node.
     NotForward = 1,
-    /// 2: it ends past node 31.
+    /// 2: it leads past node 31.
     EndsTooLate = 2,
 }
 
-// A case is its number. Each enum casts itself, since a cast of a type parameter is no Rust.
+// The number of a case is its discriminant.
 impl Numbered for WordFault {
     ghost number = { word_number };
 
@@ -28,5 +28,5 @@ impl RecordFault for WordFault {
     const TOO_MANY: u8 = 3;
 }
 
-/// What is wrong with a list of words: 3 for more than 128, or else the first word at fault, from 0.
+/// Why a list of words is refused: 3 for more than 128, else 1 or 2 with the place of the first word at fault, from 0.
 pub type LatticeFault = ListFault<WordFault>;

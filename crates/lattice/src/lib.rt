@@ -1,4 +1,4 @@
-// Word lattices: the words that a recogniser heard, between numbered nodes.
+// Word lattices: the words that a recogniser may have heard, between numbered nodes.
 #![tactic(auto)]
 
 ghost use Rattle.std.specs.Prelude.{◌≡◌, ℕ, List, length};
@@ -12,24 +12,26 @@ pub mod word;
 
 use word::Word;
 
-/// A lattice means a last node, at most 31, and a list of at most 128 words, numbered from 0. Asking changes nothing.
+/// An acyclic graph of words: at most 128 of them, in a fixed order from 0, over nodes up to 31. No method changes it.
 pub trait Lattice {
+    /// What `last_node` answers.
     ghost last: { Self → ℕ };
 
+    /// The words, in order.
     ghost words: { Self → List Word };
 
-    // The limits, which each lattice shows of itself.
+    /// The limits, proved by each implementation.
     ghost limits: { (l : Self) → Limits (last l) (words l) };
 
-    /// The last node.
+    /// The last node, 0 to 31; no word ends after it.
     fn last_node(&self) -> u8
         ensures { result ≡ last self.now };
 
-    /// How many words there are.
+    /// How many words there are, at most 128.
     fn len(&self) -> usize
         ensures { result ≡ length (words self.now) };
 
-    /// A word by its number; none past the end.
+    /// A word by its number, from 0; none past the last.
     fn word(&self, n: usize) -> Option<Word>
         ensures { result ≡ slice_get (words self.now) n };
 }

@@ -1,11 +1,14 @@
-// A heard word.
+// One word of a lattice.
 
-/// A heard word: a symbol between two nodes, the first of them before the other.
+/// A word that was heard between two nodes. What a lattice asks of it is checked by `CheckedWords`.
 #[derive(Clone, Copy, PartialEq, Eq, Debug, Default)]
 pub struct Word {
+    /// The node where the word starts, before `to`.
     pub from: u8,
+    /// The node where it ends, at most 31.
     pub to: u8,
+    /// What was heard, as a symbol of the grammar.
     pub symbol: u8,
-    /// How doubtful the word is: 0 if it is not.
+    /// How doubtful the word is, from 0 for no doubt.
     pub mark: u16,
 }

@@ -1,30 +1,30 @@
--- The last node of a heard lattice, and that checked words keep to the limits with it. Assumes nothing.
+-- The last node of a heard lattice, and that checked words make a lattice with it. Assumes nothing.
 use Rattle.std.specs.Prelude.{◌≡◌, ℕ, ◌≤◌, max, true, List, [], ◌∷◌, length, fold, refl}
 use Rattle.std.proofs.Common.{arith}
 use Rattle.std.proofs.lemmas.Grind.{common_steps}
 use Rattle.lattice.specs.declared.word.Word.{Word}
 use Rattle.lattice.specs.Words.{greatest_node, most_words, words_within, Limits}
 
--- the largest end of the words, or 0 without words
+-- the maximum of the words' ends; 0 for none
 abbrev pub largest_end : List Word → ℕ
 largest_end ws = fold (λ largest w. max largest w.to) 0 ws
 
--- the same with an end that stood before them
+-- the same from an end that came before them
 abbrev largest_from : ℕ → List Word → ℕ
 largest_from end ws = fold (λ largest w. max largest w.to) end ws
 
--- which is no larger than the largest
+-- it is at least that end
 at_least : (end : ℕ) (ws : List Word) → end ≤ largest_from end ws
 at_least end [] = omega arith
 at_least end (w ∷ ws) = omega (arith, at_least (max end w.to) ws)
 
--- words within a last node end by it
+-- words within a last node, and an end before them, have no maximum above it
 all_end : (last end : ℕ) (ws : List Word) → end ≤ last → words_within last ws ≡ true →
     largest_from end ws ≤ last
 all_end last end [] start h = start
 all_end last end (w ∷ ws) start h = grind (arith, common_steps, all_end last (max end w.to) ws)
 
--- words keep to any last node that is no smaller than the largest end
+-- words are within any last node that is at least the maximum of their ends
 ends_by : (last other end : ℕ) (ws : List Word) → largest_from end ws ≤ other → words_within last ws ≡ true →
     words_within other ws ≡ true
 ends_by last other end [] large h = refl

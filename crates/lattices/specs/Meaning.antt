@@ -7,14 +7,14 @@ use Rattle.lattices.specs.declared.typed.TypedLine.{TypedLine}
 use Rattle.lattices.specs.Heard.{largest_end, heard_limits}
 use Rattle.lattices.specs.Typed.{typed_words, typed_limits}
 
--- the words that a heard lattice was made of
+-- the words of a heard lattice
 abbrev pub heard_words : HeardLattice → List Word
 heard_words lattice = lattice.checked.records.now
 
 pub heard_keeps : (lattice : HeardLattice) → Limits (largest_end (heard_words lattice)) (heard_words lattice)
 heard_keeps lattice = heard_limits (heard_words lattice) lattice.checked.few lattice.checked.within
 
--- the bytes that a typed line was made of
+-- the bytes of a typed line
 abbrev pub typed_bytes : TypedLine → List ℕ
 typed_bytes line = line.bytes.now
 

@@ -1,15 +1,15 @@
--- The words of a typed line, and that a short line keeps to the limits. Assumes nothing.
+-- The words of a typed line, and that a short line makes a lattice. Assumes nothing.
 use Rattle.std.specs.Prelude.{◌≡◌, ℕ, suc, ◌+◌, ◌≤◌, true, List, [], ◌∷◌, length, refl}
 use Rattle.std.proofs.Common.{ap, arith}
 use Rattle.std.proofs.lemmas.Grind.{common_steps}
 use Rattle.lattice.specs.declared.word.Word.{Word}
 use Rattle.lattice.specs.Words.{greatest_node, words_within, Limits}
 
--- a byte as a word without doubt, from node n to the next
+-- a byte as an arc n → n + 1, without doubt
 abbrev pub typed_word : ℕ → ℕ → Word
 typed_word n byte = record { from = n; to = suc n; symbol = byte; mark = 0 }
 
--- the same for bytes in order, the first from node n
+-- the same for bytes in a row, the first at node n
 abbrev pub typed_from : ℕ → List ℕ → List Word
 typed_from n [] = []
 typed_from n (b ∷ bs) = typed_word n b ∷ typed_from (suc n) bs

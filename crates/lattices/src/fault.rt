@@ -1,16 +1,16 @@
-// What is wrong with a typed line that makes no lattice. The refusal has its number from one definition.
+// Why a typed line makes no lattice: refusal 4.
 ghost use Rattle.lattices.specs.Faults.{typed_number};
 
 use records::numbered::Numbered;
 
-/// What is wrong with a typed line.
+/// Why a typed line is refused.
 #[derive(Clone, Copy, PartialEq, Eq, Debug)]
 pub enum TypedFault {
-    /// 4: it has more than 31 bytes, and so too many nodes.
+    /// 4: its bytes want nodes past 31.
     TooLong = 4,
 }
 
-// A case is its number. Each enum casts itself, since a cast of a type parameter is no Rust.
+// The number of a case is its discriminant.
 impl Numbered for TypedFault {
     ghost number = { typed_number };
 

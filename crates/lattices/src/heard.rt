@@ -6,7 +6,8 @@ use lattice::Lattice;
 use lattice::checked::CheckedWords;
 use lattice::word::Word;
 
-/// The checked words as they stand in the caller's list; the last node is their largest end, sought once.
+/// The words of a caller's list that passed the check, numbered by their places. The last node is the maximum of their
+/// ends, found once; 0 if there are none.
 #[derive(Drop)]
 pub struct HeardLattice<'a> {
     checked: CheckedWords<'a>,
@@ -17,7 +18,7 @@ pub struct HeardLattice<'a> {
 impl<'a> HeardLattice<'a> {
     ghost use Rattle.lattices.specs.Meaning.{heard_words};
 
-    /// The lattice of checked words. Nothing is refused.
+    /// Makes a lattice of checked words. Never refused.
     pub fn new(checked: CheckedWords<'a>) -> Self
         ensures words { heard_words result ≡ checked.entry.records.now }
     {
@@ -26,7 +27,7 @@ impl<'a> HeardLattice<'a> {
     }
 }
 
-// The largest end of the words.
+// The maximum of the words' ends.
 fn largest_end(words: &[Word]) -> u8
     ensures { result ≡ largest_end words.now }
 {

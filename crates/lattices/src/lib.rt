@@ -1,4 +1,4 @@
-// The word lattices there are: over a caller's words, and over a caller's bytes.
+// Word lattices over a caller's words, and over a caller's bytes.
 #![tactic(auto)]
 
 pub mod fault;

@@ -1,4 +1,4 @@
-// Words and typed lines at their limits.
+// Tests of words and typed lines at their limits.
 use crate::fault::TypedFault;
 use crate::heard::HeardLattice;
 use crate::typed::TypedLine;

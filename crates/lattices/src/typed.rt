@@ -11,8 +11,7 @@ use lattice::Lattice;
 use lattice::checked::GREATEST_NODE;
 use lattice::word::Word;
 
-// It is no list of checked records: a byte alone is never refused, so `Checked` would want a fault without cases.
-/// At most 31 bytes. Byte n is a word from node n to the next, without doubt; the last node is the length.
+/// A lattice without branches: each of a caller's bytes, at most 31, is a symbol without doubt that leads one node on.
 #[derive(Drop)]
 pub struct TypedLine<'a> {
     bytes: &'a [u8],
@@ -22,14 +21,14 @@ pub struct TypedLine<'a> {
 impl<'a> TypedLine<'a> {
     ghost use Rattle.lattices.specs.Meaning.{typed_bytes};
 
-    /// A line without bytes.
+    /// The line without bytes, which `set` may fill.
     pub fn empty() -> Self
         ensures bytes { typed_bytes result ≡ [] }
     {
         TypedLine { bytes: &[] }
     }
 
-    /// A line of bytes; more than 31 are refused with 4.
+    /// Makes a line of bytes. Refused with 4 for more than 31.
     pub fn new(bytes: &'a [u8]) -> Result<Self, TypedFault>
         ensures refused { option_map typed_number (result_err result) ≡ typed_refusal bytes.now }
         ensures bytes { IfOk result (λ line. typed_bytes line ≡ bytes.now) }
@@ -40,7 +39,7 @@ impl<'a> TypedLine<'a> {
         Ok(TypedLine { bytes })
     }
 
-    /// Takes a line of bytes; more than 31 are refused with 4, and the line stays as it is.
+    /// Replaces the line by another. Refused with 4 for more than 31 bytes; the former line stays then.
     pub fn set(&mut self, bytes: &'a [u8]) -> Result<(), TypedFault>
         ensures refused { option_map typed_number (result_err result) ≡ typed_refusal bytes.now }
         ensures bytes { OnOk result (typed_bytes self.new ≡ bytes.now) }
@@ -61,7 +60,7 @@ impl<'a> Lattice for TypedLine<'a> {
     ghost limits = { typed_keeps };
 
     fn last_node(&self) -> u8 {
-        // A line is short, so the cast is plainer than a test that cannot fail; the same below.
+        // At most 31, which fits 8 bits.
         self.bytes.len() as u8
     }
 
@@ -72,6 +71,7 @@ impl<'a> Lattice for TypedLine<'a> {
 
     fn word(&self, n: usize) -> Option<Word> {
         let symbol = *self.bytes.get(n)?;
+        // Below the length, so at most 30.
         let from = n as u8;
         Some(Word {
             from,

@@ -26,7 +26,7 @@ no_number text no_fit = go (fits text) refl
     go true e = absurd (no_fit e)
     go false e = refl
 
--- what `ok` gives tells the result
+-- a result is known by what `ok` gives
 pub ok_some : {T E : Type 0} (r : Result T E) (x : T) → Some x ≡ result_ok r → r ≡ Ok x
 ok_some (Ok y) x e = cc
 ok_some (Err d) x e = cc

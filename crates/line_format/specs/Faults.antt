@@ -1,4 +1,4 @@
--- The numbers of the refusals of texts. Assumes nothing.
+-- The numbers of the refusals of a text's form. Assumes nothing.
 use Rattle.std.specs.Prelude.{ℕ}
 use Rattle.line_format.specs.declared.fault.FormFault.{FormFault}
 use Rattle.line_format.specs.declared.fault.FormFault.TheVariants.{TooManyLines, NotOfTheForm}

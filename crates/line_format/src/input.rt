@@ -1,4 +1,4 @@
-// The text that a reader gives, as far as it can matter.
+// The part of an input that can matter.
 ghost use Rattle.std.specs.Prelude.{◌≡◌, take, IfSome, IfOk};
 ghost use Rattle.line_format.specs.Writing.{enough};
 
@@ -7,7 +7,7 @@ use arrayvec::ArrayVec;
 use std::io;
 use std::io::Read;
 
-/// The first bytes of an input, up to as many as are enough.
+/// Reads the first 2,305 bytes of an input, or all if there are fewer. Fails where the input does.
 pub fn read_text<R: Read>(input: R) -> io::Result<ArrayVec<u8, ENOUGH_BYTES>>
 where
     R: Drop,
@@ -15,7 +15,7 @@ where
         (λ bytes. IfOk result (λ text. text.items ≡ take enough bytes)) }
 {
     let mut text = ArrayVec::new();
-    // The limit is a constant; no `From` goes from one width to the other.
+    // The constant fits 64 bits.
     io::copy(&mut input.take(ENOUGH_BYTES as u64), &mut text)?;
     Ok(text)
 }

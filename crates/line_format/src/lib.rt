@@ -1,4 +1,4 @@
-// From the bytes of input lines to words.
+// The input format: from bytes to words.
 #![tactic(auto)]
 
 pub mod fault;

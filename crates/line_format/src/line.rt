@@ -1,4 +1,4 @@
-// The word that a line writes.
+// Parsing of one line.
 ghost use Rattle.std.specs.Prelude.{◌≡◌};
 ghost use Rattle.line_format.specs.Lines.{number as number_of, word_of, line_word};
 
@@ -6,7 +6,7 @@ use crate::number::{number, small_number};
 use crate::split::split_once;
 use lattice::word::Word;
 
-// The word that four fields write, if each is a number in its range.
+// The word of four fields, if each is a number in its range.
 fn word_of(from: &[u8], to: &[u8], symbol: &[u8], mark: &[u8]) -> Option<Word>
     ensures { result
         ≡ word_of (number_of 255 from.now) (number_of 255 to.now) (number_of 255 symbol.now)

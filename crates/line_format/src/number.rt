@@ -1,4 +1,4 @@
-// Numbers in base ten without leading zeros.
+// Parsing of decimal numbers without leading zeros.
 ghost use Rattle.std.specs.Prelude.{◌≡◌, true, ◌&&◌, nat_le};
 ghost use Rattle.std.specs.Bool.{then_some};
 ghost use Rattle.std.specs.Str.Parse.{digits_value};
@@ -7,7 +7,7 @@ ghost use Rattle.line_format.specs.Lines.{starts, number as number_of};
 
 use std::str::from_utf8;
 
-// Whether a text may be a number by its start.
+// Whether the first bytes may be those of a number: no leading zero, and no sign.
 fn starts(text: &[u8]) -> bool
     ensures { result ≡ starts text.now }
 {

@@ -1,4 +1,4 @@
-// Texts of the form, and texts that are not.
+// Tests of texts that are of the form, and of texts that are not.
 use super::*;
 use crate::fault::*;
 use crate::input::read_text;

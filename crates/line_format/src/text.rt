@@ -1,4 +1,4 @@
-// The words that a text of lines writes.
+// Parsing of a text, line by line.
 ghost use Rattle.std.specs.Prelude.{◌≡◌, ◌<◌, ◌∷◌, length};
 ghost use Rattle.line_format.specs.Lines.{lines};
 ghost use Rattle.line_format.specs.Reading.{Answers, ReadsBack, ReadsOnly};
@@ -10,13 +10,13 @@ use crate::split::split_once;
 use arrayvec::ArrayVec;
 use lattice::word::Word;
 
-/// No text has more lines than this.
+/// The most lines of a text, and so the most words.
 pub const MOST_LINES: usize = 128;
 
-/// What follows so many bytes of a text does not change what it says.
+/// So many bytes decide what any text says: 128 lines of at most 18 bytes, and one byte more.
 pub const ENOUGH_BYTES: usize = 2305;
 
-/// The length of text that is enough to decide what it says.
+/// How many bytes decide what any text says: `ENOUGH_BYTES`, with its meaning.
 pub fn needed_bytes() -> usize
     ensures { result ≡ enough }
 {
@@ -32,7 +32,8 @@ fn first_line(text: &[u8]) -> (&[u8], &[u8])
     split_once(text, b'\n').unwrap_or((text, &[]))
 }
 
-/// The words that a text writes.
+/// The words of a text, one a line. Refused at the first line that cannot be taken: with 13 if it is not of the form, and
+/// with 3 if it is the 129th.
 pub fn read_words(text: &[u8]) -> Result<ArrayVec<Word, MOST_LINES>, FormFault>
     ensures answers { Answers text.now result }
     ensures decided { Decided (λ t. Answers t result) text.now }

@@ -1,4 +1,4 @@
--- How a refusal is told. Assumes nothing.
+-- How a refusal is printed. Assumes nothing.
 use Rattle.std.specs.Prelude.{ℕ, List, ◌++◌, codes, decimal}
 
 -- one line without its line feed

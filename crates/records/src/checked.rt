@@ -1,4 +1,4 @@
-// A list of records that was checked: what is made of it needs no refusal.
+// Lists of records that passed their check, so that nothing made of them is refused.
 ghost use Rattle.std.specs.Prelude.{◌≡◌, ◌≤◌, true, length, Ok, Err, IfOk};
 ghost use Rattle.std.specs.List.{list_all};
 ghost use Rattle.records.specs.Faults.{TellsRefusal};
@@ -6,16 +6,17 @@ ghost use Rattle.records.specs.Faults.{TellsRefusal};
 use crate::fault::{ListFault, RecordFault};
 use crate::{Record, check_records};
 
-/// Records that were checked.
+/// A caller's list of at most `R::MOST` records, each of which passed its check.
 #[derive(Drop)]
 pub struct Checked<'a, R: Record> {
+    /// The records, in the caller's order.
     pub records: &'a [R],
     pub ghost few: { length records.now ≤ R.MOST },
     pub ghost within: { list_all R.within records.now ≡ true },
 }
 
 impl<'a, R: Record> Checked<'a, R> {
-    /// Checks a list of records.
+    /// Checks a list. Refused with `TooMany` for more than `R::MOST` records, else with the first fault and its place.
     pub fn new(records: &'a [R]) -> Result<Self, ListFault<R::Fault>>
         ensures refused { TellsRefusal R.MOST R.Fault.TOO_MANY R.Fault.number R.refusal records.now
             result }
@@ -28,7 +29,7 @@ impl<'a, R: Record> Checked<'a, R> {
         Ok(Checked { records })
     }
 
-    /// Takes a list of records, or refuses it and keeps the records that it has.
+    /// Replaces the list by another that passes the check. Refused as by `new`; the former list stays then.
     pub fn check(&mut self, records: &'a [R]) -> Result<(), ListFault<R::Fault>>
         ensures refused { TellsRefusal R.MOST R.Fault.TOO_MANY R.Fault.number R.refusal records.now
             result }

@@ -4,17 +4,20 @@ ghost use Rattle.records.specs.Faults.{list_told};
 
 use crate::numbered::Numbered;
 
-/// A fault of a record also knows by which number a list of too many such records is refused.
+/// The fault of a record, with the number that refuses a list of too many such records.
 pub trait RecordFault: Numbered {
     ghost TOO_MANY: { ℕ };
 
+    /// The number of `ListFault::TooMany` for these records.
     const TOO_MANY: u8;
 }
 
-/// What is wrong with a list of records.
+/// Why a list of records is refused.
 #[derive(Clone, Copy, PartialEq, Eq, Debug)]
 pub enum ListFault<F> {
+    /// The list is too long; its number is `F::TOO_MANY`.
     TooMany,
+    /// The first record at fault, by its place from 0; the number is that of its fault.
     At { at: usize, fault: F },
 }
 

@@ -14,26 +14,29 @@ pub mod numbered;
 
 use fault::{ListFault, RecordFault};
 
-/// A record means the number of its refusal, if it is refused, and what it keeps to if it is not.
+/// A record of a list. It means by which number it is refused, and what it keeps to if it is accepted.
 pub trait Record: Copy {
+    /// Why a record is refused.
     type Fault: RecordFault;
 
-    // No list has more records than this.
     ghost MOST: { ℕ };
 
+    /// The most records of a list.
     const MOST: usize;
 
+    /// The number by which a record is refused; none where it is accepted.
     ghost refusal: { Self → Option ℕ };
 
+    /// What an accepted record keeps to.
     ghost within: { Self → Bool };
 
-    // Whether the record may stand in a list.
+    /// Accepts the record, or refuses it with its fault.
     fn check(self) -> Result<(), Self::Fault>
         ensures refused { option_map Self.Fault.number (result_err result) ≡ refusal self }
         ensures accepted { OnOk result (within self ≡ true) };
 }
 
-/// The check of the records of a list, in order.
+/// Checks records in order, however many. Refused with the first fault and the place of its record, from 0.
 pub fn check_records<R: Record>(records: &[R]) -> Result<(), ListFault<R::Fault>>
     ensures refused { option_map (list_told R.Fault.TOO_MANY R.Fault.number) (result_err result)
         ≡ first_refusal R.refusal 0 records.now }

@@ -1,18 +1,18 @@
-// Refusals that have numbers, and how an answer is told.
+// Refusals by number, and answers as programs print them.
 ghost use Rattle.std.specs.Prelude.{◌≡◌, ℕ};
 
 use std::fmt;
 
-/// A refusal means its number. An enum of plain cases casts itself to it, in a body of its own: a cast of a type parameter is no Rust.
+/// A refusal that has a number, which is never 0.
 pub trait Numbered: Copy {
     ghost number: { Self → ℕ };
 
-    // The number of the refusal.
+    /// The number of the refusal.
     fn number(self) -> u8
         ensures { result ≡ number self };
 }
 
-/// An answer as a program tells it: what it is, or that it is refused, by the number.
+/// An answer as a program prints it: the text of its value, or `refused` and the number.
 #[derive(Drop)]
 pub struct Told<T, N>(pub Result<T, N>);
 

@@ -1,4 +1,4 @@
--- What the line of a text is read as, or the number of its refusal: first its form, then its words, then its derivations. Assumes nothing.
+-- The answer to a text, stage by stage: its form, its words, its derivations. Assumes nothing.
 use Rattle.std.specs.Prelude.{◌≡◌, ⊤, ℕ, ◌<◌, ◌↔◌, ◌⊎◌, true, false, List, length, Some, None, Option, Ok, Err, Result, nat_le}
 use Rattle.std.specs.Result.{result_map_both}
 use Rattle.weighings.specs.Weighings.{sum_weights}
@@ -25,41 +25,41 @@ use Rattle.stock_reader.specs.declared.reading.Reading.{Reading}
 use Rattle.stock_reader.specs.declared.refusal.Refusal.{Refusal}
 use Rattle.stock_reader.specs.declared.refusal.Refusal.TheVariants.{Form, Lattice, Chart}
 
--- heard words, read as stock counts, with doubts added up
+-- words, read by the stock counts and sums
 abbrev pub line_task : List Word → Task
 line_task ws = record { rules = count_rules; last = largest_end ws; words = ws; weights = sum_weights }
 
--- a line from the first node to the last
+-- the symbol of a line, from node 0 to the last
 abbrev pub line_phrase : List Word → Phrase
 line_phrase ws = record { symbol = line; from = 0; to = largest_end ws }
 
 abbrev pub whole_line : List Word → Edge
 whole_line ws = edge_of (line_phrase ws)
 
--- the chart of these words, settled
+-- their settled chart
 abbrev pub line_chart : List Word → PlainChart
 line_chart ws = whole (line_task ws)
 
--- how many nodes a reading has room for
+-- the most nodes of a reading
 abbrev pub most_nodes : ℕ
 most_nodes = 256
 
--- a weight, and the nodes of a derivation that has it
+-- a reading by its fields
 abbrev pub WeightAndNodes : Type 0
 WeightAndNodes = ℕ × List Node
 
 abbrev pub told_reading : Reading → WeightAndNodes
 told_reading r = (r.weight, r.nodes.items)
 
--- an answer as it is told: a reading, or the number of a refusal
+-- an answer, its refusal by number
 abbrev pub told_line : {E : Type 0} → (E → ℕ) → Result Reading E → Result WeightAndNodes ℕ
 told_line number result = result_map_both told_reading number result
 
--- nodes as they are told beside their weight; 12 where there is no room for them
+-- the reading of this weight and these nodes; 12 if they are too many
 abbrev pub fitting : ℕ → List Node → Result WeightAndNodes ℕ
 fitting w ns = elim (nat_le (length ns) most_nodes) [ true ↦ Ok (w, ns) | false ↦ Err 12 ]
 
--- what a settled chart reads of the line
+-- the answer to words that make a lattice
 abbrev pub line_reading : List Word → Result WeightAndNodes ℕ
 line_reading ws =
     elim (settled_answer (line_task ws) (line_chart ws) (line_phrase ws)) [
@@ -67,19 +67,19 @@ line_reading ws =
       | Err number ↦ Err number
     ]
 
--- words that make no lattice are refused
+-- the answer to any words
 abbrev pub words_reading : List Word → Result WeightAndNodes ℕ
 words_reading ws = elim (words_refusal ws) [ None ↦ line_reading ws | Some refusal ↦ Err refusal.0 ]
 
--- and so is, before that, what is not of the form
+-- the answer to any text
 abbrev pub text_reading : List ℕ → Result WeightAndNodes ℕ
 text_reading text = elim (text_words text) [ Ok ws ↦ words_reading ws | Err number ↦ Err number ]
 
--- where a text writes words, so of them
+-- of the words of a text, if it is of the form
 abbrev pub WritesWords : List ℕ → (List Word → Type 0) → Type 0
 WritesWords text So = (ws : List Word) → text_words text ≡ Ok ws → So ws
 
--- where it writes words that make a lattice, so of them
+-- of them, if they make a lattice
 abbrev pub WritesLattice : List ℕ → (List Word → Type 0) → Type 0
 WritesLattice text So = WritesWords text (λ ws. words_refusal ws ≡ None → So ws)
 
@@ -88,38 +88,38 @@ WritesLattice text So = WritesWords text (λ ws. words_refusal ws ≡ None → S
 abbrev pub LineTree : List Word → Type 0
 LineTree ws = TreeOf (line_task ws) (line_phrase ws)
 
--- what an answer about the line of these words says, by the numbers of refusals
+-- what the answer to words that make a lattice says
 pub record LineSays (ws : List Word) (answer : Result WeightAndNodes ℕ) : Type 0 where
-  -- just these nodes are those of a derivation of just this weight, and none is lighter
+  -- a reading is a derivation of this weight, with these nodes; and no other is lighter
   pub read : (w : ℕ) (ns : List Node) → answer ≡ Ok (w, ns) →
       (d : LineTree ws) × (tree_weight d ≡ w) × (tree_nodes d ≡ ns) × NoneLighter (line_task ws) (whole_line ws) w
-  -- 12: there is a derivation, and none is lighter, but it has more nodes than there is room for
+  -- 12: the lightest derivation has too many nodes
   pub too_long : answer ≡ Err 12 →
       (d : LineTree ws) × NoneLighter (line_task ws) (whole_line ws) (tree_weight d) × (most_nodes < length (tree_nodes d))
-  -- 9 exactly where it has no derivation, and no more edges have derivations than there is room for
+  -- 9 ⇔ no derivation, and derivable edges do not exceed the room
   pub no_derivation : (answer ≡ Err 9) ↔ ((Derives (line_task ws) (whole_line ws) → ⊥) × (Over (line_task ws) room → ⊥))
-  -- 10 exactly where it is not finished and more edges have derivations than there is room for
+  -- 10 ⇔ not finished, and derivable edges exceed the room
   pub full : (answer ≡ Err 10) ↔ (Unfinished (line_chart ws) (whole_line ws) × Over (line_task ws) room)
   -- and no other number
   pub refusals : (number : ℕ) → answer ≡ Err number → (number ≡ 9) ⊎ ((number ≡ 10) ⊎ (number ≡ 12))
 
--- THE STAGES OF A TEXT, each of which may refuse it
+-- WHICH STAGE REFUSES
 
--- the form of a text is refused by this number
+-- the form, by this number
 abbrev pub RefusesForm : Result Reading Refusal → ℕ → Type 0
 RefusesForm (Err (Form fault)) number = form_number fault ≡ number
 RefusesForm (Err (Lattice fault)) number = ⊥
 RefusesForm (Err (Chart refusal)) number = ⊥
 RefusesForm (Ok r) number = ⊥
 
--- its words are refused by this number, and with this place
+-- the words, by this number and place
 abbrev pub RefusesWords : Result Reading Refusal → ℕ × Option ℕ → Type 0
 RefusesWords (Err (Lattice fault)) refusal = told fault ≡ refusal
 RefusesWords (Err (Form fault)) refusal = ⊥
 RefusesWords (Err (Chart other)) refusal = ⊥
 RefusesWords (Ok r) refusal = ⊥
 
--- its words make a lattice, and the chart answers
+-- neither: it is the chart that answers
 abbrev pub Charted : Result Reading Refusal → Type 0
 Charted (Ok r) = ⊤
 Charted (Err (Chart refusal)) = ⊤

@@ -6,10 +6,10 @@ use Rattle.chart_model.specs.declared.node.Node.{Node}
 use Rattle.line_format.specs.Lines.{line_feed}
 use Rattle.stock_reader.specs.declared.reading.Reading.{Reading}
 
--- nodes, each in a line of its own after what stands before
+-- a line for each node, a line feed before each
 abbrev pub node_lines : List Node → List ℕ
 node_lines ns = flat_map (λ n. line_feed ∷ node_text n) ns
 
--- the weight of a reading, and then its nodes
+-- a line for the weight, and then the nodes
 abbrev pub reading_text : Reading → List ℕ
 reading_text r = codes "weight " ++ (decimal r.weight ++ node_lines r.nodes.items)

@@ -1,4 +1,4 @@
-// What a text of heard words is read as: the lightest line that they make.
+// The stock reader: from the text of heard words to the lightest line that they make.
 #![tactic(auto)]
 
 ghost use Rattle.std.specs.Prelude.{◌≡◌, ℕ, Some, Option, Err};
@@ -32,7 +32,7 @@ use reading::{MOST_NODES, Reading};
 use refusal::Refusal;
 use weighings::sum::Sum;
 
-// Reads the lightest line over a whole lattice.
+// Reads the lightest line from node 0 of a lattice to its last.
 fn read_lattice(lattice: HeardLattice) -> Result<Reading, ReadingRefusal>
     ensures answer { told_line reading_number result ≡ line_reading (heard_words lattice.entry) }
     ensures says { LineSays (heard_words lattice.entry) (told_line reading_number result) }
@@ -52,8 +52,8 @@ fn read_lattice(lattice: HeardLattice) -> Result<Reading, ReadingRefusal>
     })
 }
 
-/// Reads the words of a text, checks them, and reads the lightest line that they make. Refused for its form with 13 or 3, for its
-/// words with 1 or 2, and for its derivations with 9, 10 or 12.
+/// Reads a text as stock counts, with doubts added up. Refused with 3 or 13 for its form, else with 1 or 2 for a word, else
+/// with 9, 10 or 12: there is no line, the chart is full, or the reading has more than 256 nodes.
 pub fn read_line(text: &[u8]) -> Result<Reading, Refusal>
     ensures answer { told_line refusal_number result ≡ text_reading text.now }
     ensures decided { Decided (λ t. told_line refusal_number result ≡ text_reading t) text.now }

@@ -1,18 +1,21 @@
-// A reading of a line: its weight, and the nodes of the derivation that has it.
+// Readings of lines, and how they are printed.
 use arrayvec::ArrayVec;
 use chart_model::node::Node;
 use std::fmt;
 
-/// How many nodes a reading has room for.
+/// The most nodes of a reading; a longer one is refused with 12.
 pub const MOST_NODES: usize = 256;
 
+/// The lightest derivation of a line.
 #[derive(Drop)]
 pub struct Reading {
+    /// The sum of the marks of its words and rules.
     pub weight: u64,
+    /// Its nodes in pre-order.
     pub nodes: ArrayVec<Node, MOST_NODES>,
 }
 
-// The weight, then a line for each node; the last lacks its line feed.
+// A line for the weight, and one for each node, with line feeds only between them.
 impl fmt::Display for Reading {
     ghost use Rattle.std.specs.Prelude.{Some};
     ghost use Rattle.stock_reader.specs.Printing.{reading_text};

@@ -1,4 +1,4 @@
-// Why a text is not read: its form, its words, or its derivations.
+// Why texts are refused, by the stage that refuses them.
 ghost use Rattle.std.specs.Prelude.{◌≡◌};
 ghost use Rattle.stock_reader.specs.declared.refusal.Refusal.TheVariants.{Form, Lattice, Chart};
 ghost use Rattle.stock_reader.specs.Refusals.{refusal_number};
@@ -8,10 +8,14 @@ use lattice::fault::LatticeFault;
 use line_format::fault::FormFault;
 use records::numbered::Numbered;
 
+/// Why a text is refused; its number is that of the case inside.
 #[derive(Clone, Copy, PartialEq, Eq, Debug)]
 pub enum Refusal {
+    /// 3 or 13: its form.
     Form(FormFault),
+    /// 1 or 2: its words, with the place of the first at fault, from 0.
     Lattice(LatticeFault),
+    /// 9, 10 or 12: there is no line, the chart is full, or the reading is too long.
     Chart(ReadingRefusal),
 }
 

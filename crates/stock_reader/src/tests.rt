@@ -1,4 +1,4 @@
-// Lines, what they are read as, and how readings are told.
+// Tests of texts, of their readings, and of what is printed.
 use super::*;
 use chart_model::node::Kind;
 use records::numbered::{Numbered, Told};

@@ -1,8 +1,8 @@
--- When a case is right: what comes out is what should. Assumes nothing.
+-- Which cases are right. Assumes nothing.
 use Rattle.std.specs.Prelude.{ℕ, Bool, false, Ok, Err, Result, ◌==◌}
 use Rattle.telling.specs.declared.case.Case.{Case}
 
--- the same number, or refused by the same number
+-- equal values, or equal refusals
 abbrev pub same_answer : Result ℕ ℕ → Result ℕ ℕ → Bool
 same_answer (Ok a) (Ok b) = a == b
 same_answer (Err a) (Err b) = a == b

@@ -5,15 +5,15 @@ use Rattle.telling.specs.declared.case.Case.{Case}
 use Rattle.telling.specs.declared.tally.Tally.{Tally}
 use Rattle.telling.specs.declared.teller.Row.{Row}
 
--- one more, as far as a count goes
+-- a saturating count of 32 bits
 abbrev pub one_more : ℕ → ℕ
 one_more count = min (count + 1) (2 ^ 32 - 1)
 
--- how many are right after a case that is or is not
+-- the right ones after one case more
 abbrev pub right_after : Bool → ℕ → ℕ
 right_after is_right count = elim is_right [ true ↦ one_more count | false ↦ count ]
 
--- a tally after what should come out and what does
+-- a tally after one expected and one actual answer
 abbrev pub answered : Tally → Result ℕ ℕ → Result ℕ ℕ → Tally
 answered tally expected got = record { cases = one_more tally.cases; right = right_after (same_answer expected got) tally.right }
 
@@ -21,7 +21,7 @@ answered tally expected got = record { cases = one_more tally.cases; right = rig
 abbrev pub counted : Tally → Case → Tally
 counted tally case = answered tally case.expected case.got
 
--- from a subject and a tally to the next: what comes out of a row is counted beside what should
+-- a row takes subject and tally on: it is asked, and its answer counted
 abbrev pub RowCounted : {S T : Type 0} → (T → S → Result ℕ ℕ → S → Type 0) → S × Tally → Row T → S × Tally → Type 0
 RowCounted answers before row after =
     (got : Result ℕ ℕ) × answers row.1 before.0 got after.0 × (after.1 ≡ answered before.1 row.2 got)

@@ -1,4 +1,4 @@
--- How a case and a tally are told, each in one line without its line feed. Assumes nothing.
+-- How cases and tallies are printed, each as a line without its line feed. Assumes nothing.
 use Rattle.std.specs.Prelude.{ℕ, true, false, List, ◌++◌, Ok, Err, Result, codes, decimal}
 use Rattle.records.specs.Telling.{refused_text}
 use Rattle.telling.specs.Answers.{right}
@@ -9,11 +9,11 @@ abbrev pub answer_text : Result ℕ ℕ → List ℕ
 answer_text (Ok value) = decimal value
 answer_text (Err refusal) = refused_text refusal
 
--- a case by its theme and its name
+-- theme and name
 abbrev pub title : Case → List ℕ
 title case = case.theme.now ++ (codes ": " ++ case.name.now)
 
--- the two answers only where they differ
+-- the two answers are printed only if they differ
 abbrev pub case_text : Case → List ℕ
 case_text case =
     elim (right case) [

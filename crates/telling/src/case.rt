@@ -1,23 +1,27 @@
-// One case, and the answers of calls by numbers.
+// Cases: what a call should answer, and what it does.
 ghost use Rattle.std.specs.Prelude.{◌≡◌, ◌↔◌, IsTrue, Ok, Err, IsOkAnd, MatchOption, MatchResult};
 ghost use Rattle.telling.specs.Answers.{right};
 
 use records::numbered::Numbered;
 use std::fmt;
 
-/// What a call answers: a number, or that it is refused, by the number of the refusal.
+/// What a call answers: a value, or the number of its refusal; 0 stands for none.
 pub type Answer = Result<u64, u8>;
 
-/// A case: what it is about, its name there, what should come out, and what does.
+/// One case of a table.
 #[derive(Clone, Copy)]
 pub struct Case {
+    /// What the cases of its table are about.
     pub theme: &'static str,
+    /// Its name among them.
     pub name: &'static str,
+    /// What should come out.
     pub expected: Answer,
+    /// What comes out.
     pub got: Answer,
 }
 
-// An answer as a line of the table tells it.
+// An answer as a report prints it.
 #[derive(Clone, Copy)]
 struct Shown(Answer);
 
@@ -35,7 +39,7 @@ impl fmt::Display for Shown {
     }
 }
 
-/// An answer by numbers.
+/// The answer of a call whose refusals have numbers.
 pub fn told<T: Into<u64>, N: Numbered>(answer: Result<T, N>) -> Answer
     ensures { MatchResult answer (λ value. IsOkAnd result (T.converts value))
         (λ refusal. result ≡ Err (N.number refusal)) }
@@ -46,7 +50,7 @@ pub fn told<T: Into<u64>, N: Numbered>(answer: Result<T, N>) -> Answer
     }
 }
 
-/// An answer that may be none, which is told as refusal 0: no refusal has that number.
+/// An answer that may be none, which becomes refusal 0: no refusal has that number.
 pub fn given<T: Into<u64>>(answer: Option<T>) -> Answer
     ensures { MatchOption answer (result ≡ Err 0) (λ value. IsOkAnd result (T.converts value)) }
 {
@@ -56,7 +60,7 @@ pub fn given<T: Into<u64>>(answer: Option<T>) -> Answer
     }
 }
 
-/// The answer of a call that gives nothing back: 0, if it is not refused.
+/// The answer of a call that gives nothing back: 0 if it is accepted.
 pub fn done<N: Numbered>(answer: Result<(), N>) -> Answer
     ensures { result ≡ elim answer [ Ok _ ↦ Ok 0 | Err refusal ↦ Err (N.number refusal) ] }
 {
@@ -64,7 +68,7 @@ pub fn done<N: Numbered>(answer: Result<(), N>) -> Answer
 }
 
 impl Case {
-    /// Whether what comes out is what should.
+    /// Whether what comes out is what should come out.
     pub fn is_right(&self) -> bool
         ensures same { IsTrue result ↔ (self.now.expected ≡ self.now.got) }
         ensures right { result ≡ right self.now }
@@ -73,7 +77,7 @@ impl Case {
     }
 }
 
-// One line without its line feed.
+// One line of a report, without its line feed.
 impl fmt::Display for Case {
     ghost use Rattle.std.specs.Prelude.{Some};
     ghost use Rattle.telling.specs.Telling.{case_text};

@@ -1,4 +1,4 @@
-// How cases are told, each in a line, and counted.
+// Table-driven tests: cases, each reported in a line, and counted.
 #![tactic(auto)]
 
 pub mod case;

@@ -1,13 +1,15 @@
-// How many cases there were, and how many of them came out as they should.
+// The count of cases, and of right ones.
 ghost use Rattle.std.specs.Prelude.{◌≡◌};
 
 use crate::case::Case;
 use std::fmt;
 
-/// A count of cases, and of those that are right, each as far as it goes.
+/// A count of cases; both numbers saturate at 2^32 - 1.
 #[derive(Clone, Copy, Default)]
 pub struct Tally {
+    /// How many cases there were.
     pub cases: u32,
+    /// How many of them were right.
     pub right: u32,
 }
 
@@ -25,7 +27,7 @@ impl Tally {
     }
 }
 
-// The last line of a table, without its line feed.
+// The last line of a report, without its line feed.
 impl fmt::Display for Tally {
     ghost use Rattle.std.specs.Prelude.{Some};
     ghost use Rattle.telling.specs.Telling.{tally_text};

@@ -1,4 +1,4 @@
-// Rows of a table, told one after the other.
+// Reports on tables, row by row.
 ghost use Rattle.std.specs.Prelude.{◌≡◌, OnOk, ℕ, Result};
 
 use crate::case::{Answer, Case};
@@ -16,20 +16,24 @@ macro_rules! rows {
     };
 }
 
-/// What a row asks of a subject.
+/// What a row can ask of a subject.
 pub trait Asks<S> {
     /// What may come out, and what may be left of the subject, as far as that is promised.
     ghost answers: { Self → S → Result ℕ ℕ → S → Type 0 } = { λ _ _ _ _. Unit {0} };
 
+    /// Asks it; the subject may change.
     fn ask(&self, subject: &mut S) -> Answer
         ensures { answers self.now subject.old result subject.new };
 }
 
-/// Tells cases of one theme after the other.
+/// Prints a line for each case, and counts them.
 #[derive(Drop)]
 pub struct Teller<'a, P> {
+    /// Where lines are printed.
     pub rt: &'a P,
+    /// What the cases of the present table are about.
     pub theme: &'static str,
+    /// All cases so far.
     pub tally: Tally,
 }
 
@@ -37,7 +41,7 @@ impl<'a, P: Print> Teller<'a, P> {
     ghost use Rattle.std.specs.List.{FoldsTo};
     ghost use Rattle.telling.specs.Counting.{answered, RowCounted};
 
-    /// Tells in a line what came out of a row, and counts it.
+    /// Prints what came out of a row, and counts it. Fails where printing does.
     pub fn tell<T>(&mut self, row: &Row<T>, got: Answer) -> io::Result<()>
         ensures { OnOk result (self.new.tally ≡ answered self.old.tally row.now.2 got) }
     {
@@ -51,7 +55,7 @@ impl<'a, P: Print> Teller<'a, P> {
         println!(self.rt; "{case}")
     }
 
-    /// Asks a subject what rows say, in order, tells what comes out of each, and counts it. No row is left out.
+    /// Asks a subject what each row says, in order, and reports what comes out. Fails where printing does.
     pub fn tell_all<S, T: Asks<S>>(&mut self, rows: &[Row<T>], subject: &mut S) -> io::Result<()>
         ensures { OnOk result (FoldsTo (RowCounted T.answers)
             (subject.old, self.old.tally) rows.now (subject.new, self.new.tally)) }

@@ -1,4 +1,4 @@
--- Chances multiply lawfully: a product of parts is no larger than either part, and grows with both. Assumes nothing.
+-- The laws of `Chance`: a product of chances is at most either factor, and monotone in both. Assumes nothing.
 use Rattle.std.specs.Prelude.{ℕ, ◌≤◌, min}
 use Rattle.std.proofs.Common.{mul-le-mul, le_refl, arith}
 use Rattle.std.proofs.lemmas.Bool.Decides.{nat_tests}
@@ -11,7 +11,7 @@ min_below a = omega arith
 min_grows : (a b : ℕ) → a ≤ b → min a certain ≤ min b certain
 min_grows a b h = omega arith
 
--- what is joined is at most either part
+-- a product is at most its left factor; then the right
 join_below_left : (a b : ℕ) → chance_join a b ≤ min a certain
 join_below_left a b = omega (arith, mul-le-mul (le_refl (min a certain)) (min_below b))
 

@@ -5,10 +5,11 @@ ghost use Rattle.weighings.specs.Chances.{chance_lawful};
 
 use weighing::Weighing;
 
-// The code of certainty; others are parts of it.
+// The code of certainty, 2^31.
 const CERTAIN: u64 = 2_147_483_648;
 
-/// Chances multiply, and the larger one is lighter. A weight is a chance in 2,147,483,648th parts of certainty.
+/// Chances multiply, rounded down; the larger one is lighter. A weight counts parts of 2^31 to certainty: mark 0 has all
+/// of them, and each further mark 32,768 less.
 #[derive(Clone, Copy, PartialEq, Eq, Debug, Default)]
 pub struct Chance;
 

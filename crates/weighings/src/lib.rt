@@ -1,4 +1,4 @@
-// The weighings there are: doubts added up, the worst doubt, and chances multiplied.
+// Three weighings: doubts added up, the worst doubt alone, and chances multiplied.
 #![tactic(auto)]
 
 pub mod chance;

@@ -5,7 +5,7 @@ ghost use Rattle.std.proofs.Common.{rules};
 
 use weighing::Weighing;
 
-/// Marks add up, to 2^64 - 1 at most, and the smaller weight is lighter.
+/// Marks add up and saturate at 2^64 - 1; the smaller weight is lighter.
 #[derive(Clone, Copy, PartialEq, Eq, Debug, Default)]
 pub struct Sum;
 

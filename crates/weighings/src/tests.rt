@@ -1,4 +1,4 @@
-// Weights at the ends of their ranges.
+// Tests of weights at the ends of their ranges.
 use crate::chance::Chance;
 use crate::sum::Sum;
 use crate::worst::Worst;

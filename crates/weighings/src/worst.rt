@@ -5,12 +5,10 @@ ghost use Rattle.std.proofs.Common.{rules};
 
 use weighing::Weighing;
 
-/// The larger mark counts alone, and the smaller weight is lighter.
+/// The greatest mark of a derivation is its weight; the smaller weight is lighter.
 #[derive(Clone, Copy, PartialEq, Eq, Debug, Default)]
 pub struct Worst;
 
-// Its marks and its order are those of `Sum`. A provided method could not state these equations, since a clause of the
-// trait knows of `weights` only.
 impl Weighing for Worst {
     ghost weights = { λ _. worst_weights };
 

@@ -13,8 +13,7 @@ use telling::case::{Answer, told};
 use telling::teller::{Asks, Row, Teller};
 use weighing::Weighing;
 
-// What is asked of a chart that takes steps: a step; up to so many steps, of which those are counted that are taken before one is
-// refused; or the weight of a symbol over a stretch.
+// What is asked of a working chart: a step, how many of at most so many steps are not refused, or a weight.
 #[derive(Clone, Copy)]
 pub(crate) enum Move {
     Step,
@@ -22,8 +21,8 @@ pub(crate) enum Move {
     Ask(u8, u8, u8),
 }
 
-// What is asked of a settled chart: the weight of a symbol over a stretch; a reading into so many nodes of a list; or how many nodes of
-// the list agree with others, from one of its nodes and from one of theirs on.
+// What is asked of a settled chart: a weight, a reading into so many nodes of the list, or how many nodes of the list, from
+// one on, agree with others, from one of those on.
 #[derive(Clone, Copy)]
 pub(crate) enum Final {
     Weight(u8, u8, u8),
@@ -48,7 +47,7 @@ impl<G: Grammar, L: Lattice, W: Weighing> Asks<WorkingChart<G, L, W>> for Move {
     }
 }
 
-// How many steps are taken before one is refused, up to so many.
+// How many of at most so many steps come before a refused one.
 fn steps<G: Grammar, L: Lattice, W: Weighing>(chart: &mut WorkingChart<G, L, W>, most: u16) -> u16 {
     for taken in 0..most {
         if chart.step().is_err() {
@@ -74,7 +73,7 @@ impl<G: Grammar, L: Lattice, W: Weighing> Asks<Settled<G, L, W>> for Final {
 }
 
 impl<G: Grammar, L: Lattice, W: Weighing> Settled<G, L, W> {
-    // How many nodes a reading has, written into so much of the list.
+    // Reads into the first `room` nodes of the list.
     fn read(&mut self, phrase: Phrase, room: usize) -> Answer {
         let nodes: &mut [Node] = &mut self.nodes;
         let room = room.min(nodes.len());
@@ -85,7 +84,7 @@ impl<G: Grammar, L: Lattice, W: Weighing> Settled<G, L, W> {
     }
 }
 
-// Asks a chart what rows say before it is settled, and what others say then.
+// Asks a chart the first rows, settles it, and asks it the others.
 pub(crate) fn step_and_settle<P: Print, G: Grammar + Drop, L: Lattice + Drop, W: Weighing + Drop>(
     teller: &mut Teller<'_, P>,
     setting: Setting<G, L, W>,

@@ -1,4 +1,4 @@
-// What is asked of checks of lists, and of what a refused check leaves.
+// What is asked of checks of lists, and what a refused check keeps.
 use crate::making::{Words, listed};
 use grammars::rule::RuleRecord;
 use lattice::word::Word;
@@ -10,7 +10,7 @@ use records::numbered::Numbered;
 use telling::case::{Answer, done};
 use telling::teller::Asks;
 
-// How often a word is accepted of so many times, or the place of the first word at fault, if the list is not too long.
+// How many copies of a word are accepted as a list, or the place of the first word at fault.
 #[derive(Clone, Copy)]
 pub(crate) enum WordCheck {
     Accepts(usize, Word),
@@ -24,23 +24,23 @@ pub(crate) enum RuleCheck {
     FirstBad(&'static [RuleRecord]),
 }
 
-// Records that are kept, and a list that is too long.
+// Checked records, and a list that is too long for them.
 #[derive(Drop)]
 pub(crate) struct Kept<'a, R: Record> {
     pub(crate) checked: Checked<'a, R>,
     pub(crate) too_many: &'a [R],
 }
 
-// A list is checked after others.
+// Checks a further list.
 pub(crate) struct Next<R: 'static>(pub(crate) &'static [R]);
 
-// The list that is too long is.
+// Checks the list that is too long.
 pub(crate) struct TooMany;
 
-// A line is typed after others.
+// Types a further line.
 pub(crate) struct Bytes(pub(crate) &'static [u8]);
 
-// No list has more records here: one more than a lattice takes.
+// The most copies: one more than a lattice takes.
 const MOST: usize = 129;
 
 fn accepted<R: Record>(records: &[R]) -> Answer {

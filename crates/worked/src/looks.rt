@@ -5,14 +5,14 @@ use telling::case::{Answer, given};
 use telling::teller::Asks;
 use weighing::Weighing;
 
-// What a mark weighs, or two weights joined.
+// The weight of a mark, or two weights joined.
 #[derive(Clone, Copy)]
 pub(crate) enum Code {
     Mark(u16),
     Join(u64, u64),
 }
 
-// How many rules there are; the mark of a rule; how many right symbols it has; or one of them.
+// The number of rules, or the mark, the length or a right symbol of one of them.
 #[derive(Clone, Copy)]
 pub(crate) enum RuleLook {
     Count,
@@ -21,7 +21,7 @@ pub(crate) enum RuleLook {
     Right(usize, usize),
 }
 
-// How many words there are; the last node; or where a word ends, and its symbol.
+// The number of words, the last node, or the end or the symbol of a word.
 #[derive(Clone, Copy)]
 pub(crate) enum WordLook {
     Count,

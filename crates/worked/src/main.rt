@@ -1,4 +1,4 @@
-// Runs worked cases through the calls of the crates, and tells of each whether it comes out as it should.
+// The program of worked cases: runs them through the crates, and prints of each whether it comes out as it should.
 #![tactic(auto)]
 
 mod charts;
@@ -18,7 +18,7 @@ use telling::tally::Tally;
 use telling::teller::Teller;
 use theme::Theme;
 
-// Plays themes, one after the other.
+// Plays themes in order.
 fn play_all<P: Print>(teller: &mut Teller<'_, P>, themes: &[Theme]) -> io::Result<()> {
     for theme in themes {
         theme.play(teller)?;

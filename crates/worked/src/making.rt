@@ -1,5 +1,5 @@
-// Words, rules, nodes and questions in a few words, and the lattices, grammars and long lists that are made of them.
-// Those that a table names are macros, since a table is a constant, and a constant calls no function.
+// Short forms of words, rules, nodes and questions, and what is made of them. Tables are constants, so their forms are
+// macros.
 use arrayvec::ArrayVec;
 use grammars::checked::{CheckedRules, no_rules};
 use grammars::list::RuleList;
@@ -16,14 +16,14 @@ macro_rules! word {
     };
 }
 
-// A rule of the first so many symbols.
+// A rule of the first `length` symbols.
 macro_rules! rule {
     ($left:expr, $length:expr, $symbols:expr, $mark:expr) => {
         grammars::rule::RuleRecord { left: $left, length: $length, symbols: $symbols, mark: $mark }
     };
 }
 
-// A symbol over a stretch.
+// A symbol over a span.
 macro_rules! phrase {
     ($symbol:expr, $from:expr, $to:expr) => {
         chart_model::phrase::Phrase { symbol: $symbol, from: $from, to: $to }
@@ -37,7 +37,7 @@ macro_rules! node {
     };
 }
 
-// A question that was not asked yet.
+// A question without its answer yet.
 macro_rules! question {
     ($symbol:expr, $from:expr, $to:expr) => {
         chart::call::Question { phrase: phrase!($symbol, $from, $to), answer: None }
@@ -50,11 +50,11 @@ pub(crate) use question;
 pub(crate) use rule;
 pub(crate) use word;
 
-// So many words from one on, each so many nodes and so many symbols after the one before.
+// A row of words: how many, the first, and by how many nodes and symbols each is after the one before.
 #[derive(Clone, Copy)]
 pub(crate) struct Words(pub(crate) u8, pub(crate) Word, pub(crate) u8, pub(crate) u8);
 
-// The words of all rows, as far as there is room for them: one more than a lattice takes.
+// The words of all rows. There is room for one more than a lattice takes.
 pub(crate) fn listed(rows: &[Words]) -> ArrayVec<Word, 129> {
     let mut words = ArrayVec::new();
     for Words(count, first, nodes, symbols) in rows {
@@ -69,7 +69,7 @@ pub(crate) fn listed(rows: &[Words]) -> ArrayVec<Word, 129> {
     words
 }
 
-// 96 rules without right symbols, each with its number as its left, and mark 7, but for the last.
+// 95 empty rules of mark 7, whose left symbols are their numbers, and a last rule.
 pub(crate) fn empty_rules(last: RuleRecord) -> [RuleRecord; 96] {
     let mut rules = [last; 96];
     for left in 0..95 {
@@ -78,7 +78,7 @@ pub(crate) fn empty_rules(last: RuleRecord) -> [RuleRecord; 96] {
     rules
 }
 
-// The lattice of words. Where they are refused it has none, and then the cases over it go wrong; the same below.
+// The lattice of words. Refused ones leave it empty, which the cases over it show; so below.
 pub(crate) fn heard(words: &[Word]) -> HeardLattice<'_> {
     HeardLattice::new(CheckedWords::new(words).unwrap_or(no_words()))
 }

@@ -1,4 +1,4 @@
-// Readings in one call, and lists of nodes beside what they should be.
+// Readings in one call, and the comparison of lists of nodes.
 use crate::making::node;
 use chart::read::read;
 use chart::setting::Setting;
@@ -11,8 +11,8 @@ use telling::case::Answer;
 use telling::teller::Asks;
 use weighing::Weighing;
 
-// What is asked of a reading in one call: its weight; how many nodes it has; how many of the first nodes of the list agree with others; or
-// the same if it has just as many as those.
+// What is asked of a reading: its weight, its length, how many nodes of the list agree with others from the front on, or
+// the same if the reading is as long as those.
 #[derive(Clone, Copy)]
 pub(crate) enum Listed {
     Weight,
@@ -21,13 +21,13 @@ pub(crate) enum Listed {
     Whole(&'static [Node]),
 }
 
-// No list has more nodes than this.
+// The most nodes of a list.
 pub(crate) const MOST_NODES: usize = 13;
 
-// A list of nodes before it is written: none of them is of a reading here.
+// The nodes of a list before it is written, unlike any of a reading here.
 pub(crate) const BLANK: Node = node!(Word, 255, 255, 255);
 
-// A reading in one call, and the list that it was written into.
+// A reading in one call, and its list.
 #[derive(Clone, Copy)]
 pub(crate) struct Reading {
     weight: Answer,
@@ -35,7 +35,7 @@ pub(crate) struct Reading {
     nodes: [Node; MOST_NODES],
 }
 
-// How many nodes two lists share from the front on.
+// How many nodes two lists have in common from the front on.
 pub(crate) fn shared(one: &[Node], other: &[Node]) -> Answer {
     let mut count = 0;
     for node in one {
@@ -47,7 +47,7 @@ pub(crate) fn shared(one: &[Node], other: &[Node]) -> Answer {
     Ok(count as u64)
 }
 
-// From opening to a reading, into so many nodes.
+// Reads a phrase into so many nodes.
 pub(crate) fn read_into<G: Grammar + Drop, L: Lattice + Drop, W: Weighing + Drop>(
     setting: Setting<G, L, W>,
     phrase: Phrase,

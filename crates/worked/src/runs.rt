@@ -1,4 +1,4 @@
-// Runs: a list of calls and of questions at the end, which answer as the calls do one by one.
+// Runs, and the same calls one by one.
 use crate::making::{phrase, question};
 use chart::call::{Call, FinalQuestion, Question};
 use chart::outcome::Outcome;
@@ -14,8 +14,8 @@ use telling::case::{Answer, given, told};
 use telling::teller::Asks;
 use weighing::Weighing;
 
-// What is asked of a run: the answer of a call or of a question at the end, by its number; how many edges are finished; whether the chart
-// is full; or the weight of a finished edge.
+// What is asked of a run: the answer of a call or of a final question by its number, the count of finished edges, whether
+// the chart is full, or the weight of a passive edge.
 #[derive(Clone, Copy)]
 pub(crate) enum Left {
     Called(usize),
@@ -25,7 +25,7 @@ pub(crate) enum Left {
     Weight(u8, u8, u8),
 }
 
-// How many calls of a run, or questions at its end, answer as they do one by one.
+// How many calls of a run, or final questions, answer as they do one by one.
 #[derive(Clone, Copy)]
 pub(crate) enum Alike {
     Calls,
@@ -34,12 +34,12 @@ pub(crate) enum Alike {
 
 pub(crate) const STEP: Call = Call::Step { answer: None };
 
-// No run has more calls than this, or more questions at the end.
+// The most calls of a run, and then the most final questions.
 const MOST_CALLS: usize = 80;
 
 const MOST_QUESTIONS: usize = 4;
 
-// A run: its calls and its questions with their answers, and what it leaves.
+// A run that was made: its calls and final questions with their answers, and its outcome.
 #[derive(Drop)]
 pub(crate) struct Ran<G: Grammar, L: Lattice, W: Weighing> {
     calls: [Call; MOST_CALLS],
@@ -47,14 +47,14 @@ pub(crate) struct Ran<G: Grammar, L: Lattice, W: Weighing> {
     outcome: Outcome<G, L, W>,
 }
 
-// How many calls and questions answer alike.
+// How many calls and final questions answer alike.
 #[derive(Clone, Copy)]
 pub(crate) struct Counts {
     calls: u64,
     questions: u64,
 }
 
-// Calls to be made: so many steps, and then others.
+// So many steps, and then further calls.
 fn calls_to_make(steps: usize, calls: &[Call]) -> [Call; MOST_CALLS] {
     let mut room = [STEP; MOST_CALLS];
     for n in 0..MOST_CALLS {
@@ -67,7 +67,7 @@ fn calls_to_make(steps: usize, calls: &[Call]) -> [Call; MOST_CALLS] {
     room
 }
 
-// Questions to be asked.
+// Final questions, up to the most.
 fn questions_to_ask(questions: &[FinalQuestion]) -> [FinalQuestion; MOST_QUESTIONS] {
     let mut room = [question!(0, 0, 0); MOST_QUESTIONS];
     for n in 0..MOST_QUESTIONS {
@@ -78,7 +78,7 @@ fn questions_to_ask(questions: &[FinalQuestion]) -> [FinalQuestion; MOST_QUESTIO
     room
 }
 
-// Makes a run, which settles if there are questions for its end.
+// Makes a run, which settles if there are final questions.
 pub(crate) fn make_run<G: Grammar, L: Lattice, W: Weighing>(
     setting: Setting<G, L, W>,
     steps: usize,
@@ -107,7 +107,7 @@ pub(crate) fn make_run<G: Grammar, L: Lattice, W: Weighing>(
     }
 }
 
-// The answer that a call was given, if it was given one.
+// The answer noted of a call; refusal 0 for none.
 fn noted(call: &Call) -> Answer {
     match call {
         Call::Step {
@@ -118,7 +118,7 @@ fn noted(call: &Call) -> Answer {
     }
 }
 
-// The answer that a question was given, if it was given one.
+// The answer noted of a final question; refusal 0 for none.
 fn given_to<N: Numbered>(question: &Question<N>) -> Answer {
     match question.answer {
         Some(answer) => told(answer),
@@ -146,7 +146,7 @@ impl<G: Grammar, L: Lattice, W: Weighing> Asks<Ran<G, L, W>> for Left {
     }
 }
 
-// The answer of a call that is made by itself.
+// The answer of a call made by itself.
 fn made<G: Grammar, L: Lattice, W: Weighing>(
     chart: &mut WorkingChart<G, L, W>,
     call: &Call,
@@ -157,7 +157,7 @@ fn made<G: Grammar, L: Lattice, W: Weighing>(
     }
 }
 
-// How many calls of a run were answered as they are when they are made one by one.
+// How many calls of a run have the answer that they get one by one.
 fn calls_alike<G: Grammar, L: Lattice, W: Weighing>(
     chart: &mut WorkingChart<G, L, W>,
     calls: &[Call],
@@ -171,7 +171,7 @@ fn calls_alike<G: Grammar, L: Lattice, W: Weighing>(
     alike
 }
 
-// How many questions at the end of a run were answered as they are when they are asked one by one.
+// How many final questions of a run have the answer that they get one by one.
 fn questions_alike<G: Grammar, L: Lattice, W: Weighing>(
     chart: &SettledChart<G, L, W>,
     questions: &[FinalQuestion],
@@ -185,7 +185,7 @@ fn questions_alike<G: Grammar, L: Lattice, W: Weighing>(
     alike
 }
 
-// Makes a run with questions at the end, and the same calls one by one.
+// Makes a run that settles, and compares it with the same calls one by one.
 pub(crate) fn one_by_one<G: Grammar + Drop, L: Lattice + Drop, W: Weighing + Drop>(
     setting: Setting<G, L, W>,
     calls: &[Call],

@@ -1,4 +1,4 @@
-// What is done over a setting, from opening on.
+// Scripts: what is done with a setting.
 use crate::charts::{Final, Move, step_and_settle};
 use crate::looks::{Code, RuleLook};
 use crate::readings::{Listed, read_into};
@@ -21,15 +21,15 @@ pub(crate) enum Script {
     Codes(&'static [Row<Code>]),
     // What is asked of the rules.
     Rules(&'static [Row<RuleLook>]),
-    // A weight in one call: what the row of this setting says.
+    // A weight in one call, as a case of this row.
     Weigh(Phrase, &'static Row<Over>),
-    // A reading in one call, into a list of so many nodes.
+    // A reading in one call, into so many nodes.
     ReadOnce(Phrase, usize, &'static [Row<Listed>]),
-    // A chart: what is asked of it before it is settled, and what then.
+    // A chart, before and after it is settled.
     Chart(&'static [Row<Move>], &'static [Row<Final>]),
-    // A run: so many steps and then calls, questions at the end if it settles, and what is asked of what it leaves.
+    // A run: so many steps and then calls, final questions if it settles, and what it leaves.
     Run(usize, &'static [Call], Option<&'static [FinalQuestion]>, &'static [Row<Left>]),
-    // A run beside the same calls one by one.
+    // A run compared with the same calls one by one.
     OneByOne(&'static [Call], &'static [FinalQuestion], &'static [Row<Alike>]),
 }
 

@@ -1,4 +1,4 @@
-// What charts are opened over, as a table names it.
+// Settings, as tables name them.
 use crate::making::{Words, empty_rules, heard, listed, ruled, typed};
 use crate::script::{Script, play};
 use chart::setting::Setting;
@@ -14,8 +14,8 @@ use weighings::chance::Chance;
 use weighings::sum::Sum;
 use weighings::worst::Worst;
 
-// The stock counts; the same with one, two or three surcharges on symbols, the first below the others; a list of rules; or 96 rules
-// without right symbols, but for the last.
+// The stock counts, without penalties or with up to three, the lowest first; a list of rules; or 95 empty rules and a last
+// one.
 #[derive(Clone, Copy)]
 pub(crate) enum Rules {
     Counts,
@@ -26,7 +26,7 @@ pub(crate) enum Rules {
     Empty(RuleRecord),
 }
 
-// Words that were heard, listed or in rows, or bytes that were typed.
+// Heard words, listed or in rows, or typed bytes.
 #[derive(Clone, Copy)]
 pub(crate) enum Line {
     Heard(&'static [Word]),
@@ -45,7 +45,7 @@ pub(crate) enum Weighed {
 pub(crate) struct Over(pub(crate) Rules, pub(crate) Line, pub(crate) Weighed);
 
 impl Over {
-    // Plays a script over it.
+    // Plays a script over the setting.
     pub(crate) fn play<P: Print>(
         &self,
         teller: &mut Teller<'_, P>,

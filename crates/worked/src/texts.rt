@@ -6,8 +6,8 @@ use stock_reader::read_line;
 use telling::case::Answer;
 use telling::teller::Asks;
 
-// How many words a text writes, which is so many lines of 8 bytes and then others; what the line that it writes weighs; or how many nodes
-// the reading of that has.
+// What is asked: how many words so many lines and a further text have, or the weight or the number of nodes of a text's
+// reading.
 #[derive(Clone, Copy)]
 pub(crate) enum Text {
     Words(u8, &'static [u8]),
@@ -15,7 +15,7 @@ pub(crate) enum Text {
     Length(&'static [u8]),
 }
 
-// So many lines of 8 bytes, and then others.
+// So many lines of 8 bytes, and then further text.
 fn lines(count: u8, rest: &[u8]) -> ArrayVec<u8, 1032> {
     let mut text = ArrayVec::new();
     for _ in 0..count {

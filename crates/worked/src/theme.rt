@@ -1,4 +1,4 @@
-// Cases of one theme: what is asked, and what should come out.
+// Themes: tables of cases about one subject.
 use crate::checks::{Bytes, Kept, Next, RuleCheck, TooMany, WordCheck};
 use crate::looks::{RuleLook, WordLook};
 use crate::making::{rule, word};
@@ -24,12 +24,12 @@ pub(crate) struct Theme(pub(crate) &'static str, pub(crate) Cases);
 pub(crate) enum Cases {
     // Scripts over a setting.
     Scripts(Over, &'static [Script]),
-    // The weight of a symbol over a stretch, in one call, over several settings.
+    // The weight of one phrase over several settings.
     Weights(Phrase, &'static [Row<Over>]),
     // Checks of lists.
     Words(&'static [Row<WordCheck>]),
     Rules(&'static [Row<RuleCheck>]),
-    // Lists that are checked one after the other, the last of them too long, and what is left of them.
+    // Lists checked in turn, the last of them too long, and what is kept.
     KeptWords(&'static [Row<Next<Word>>], &'static [Row<TooMany>], &'static [Row<WordLook>]),
     KeptRules(&'static [Row<Next<RuleRecord>>], &'static [Row<TooMany>], &'static [Row<RuleLook>]),
     KeptBytes(&'static [Row<Bytes>], &'static [Row<WordLook>]),
@@ -37,7 +37,7 @@ pub(crate) enum Cases {
 }
 
 impl Theme {
-    // Asks what its rows say, and tells what comes out.
+    // Asks its rows, and reports what comes out.
     pub(crate) fn play<P: Print>(&self, teller: &mut Teller<'_, P>) -> io::Result<()> {
         teller.theme = self.0;
         match self.1 {
@@ -75,7 +75,7 @@ fn weigh_all<P: Print>(
     Ok(())
 }
 
-// A list is too long with 129 words, and with 97 rules.
+// 129 words are too many, and below 97 rules.
 fn keep_words<P: Print>(
     teller: &mut Teller<'_, P>,
     lists: &[Row<Next<Word>>],

@@ -1,4 +1,4 @@
--- Worked cases: small tasks, and what a chart with room for 1,024 edges makes of them. Assumes nothing.
+-- Worked cases: small tasks, and what a chart of 1,024 places makes of them. Assumes nothing.
 use Rattle.std.specs.Prelude.{◌≡◌, ℕ, ◌≤◌, List, [], ◌∷◌, length, map, Ok, Err, Result, refl}
 use Rattle.std.proofs.Common.{lit≤}
 use Rattle.weighing.specs.Laws.{Weights}
@@ -46,7 +46,7 @@ abbrev pub round : Task
 round =
     over_words (rewrites 5 (5 ∷ []) 0 ∷ rewrites 5 (9 ∷ []) 7 ∷ []) (heard 0 1 9 5 ∷ []) sum_weights
 
--- a symbol of two symbols, each of nothing
+-- a symbol of two empty ones
 abbrev pub two_empties : Task
 two_empties =
     over_bytes (rewrites 5 (6 ∷ 6 ∷ []) 1 ∷ rewrites 6 [] 2 ∷ []) [] sum_weights
@@ -55,7 +55,7 @@ two_empties =
 abbrev pub echo : ℕ → ℕ → Task
 echo first second = over_words [] (heard 0 1 9 first ∷ heard 0 1 9 second ∷ []) sum_weights
 
--- a symbol over a stretch
+-- a phrase
 abbrev pub about : ℕ → ℕ → ℕ → Phrase
 about symbol from to = record { symbol = symbol; from = from; to = to }
 
@@ -64,7 +64,7 @@ about symbol from to = record { symbol = symbol; from = from; to = to }
 abbrev pub count_line : Task
 count_line = two_boxes count_rules sum_weights
 
--- "two", "one", and the nothing between two parts
+-- "two", "one", and the empty gap between two parts
 abbrev number_two : Tree count_line num 0 1
 number_two = rule 7 _ refl (more (word 0 _ refl) (none (lit≤ tt)))
 
@@ -74,7 +74,7 @@ number_one = rule 6 _ refl (more (word 3 _ refl) (none (lit≤ tt)))
 abbrev gap_at : (i : ℕ) → i ≤ 4 → Tree count_line gap i i
 gap_at i within = rule 9 _ refl (none within)
 
--- a line of two parts, with nothing between them
+-- a line of two parts, with the empty gap between them
 abbrev two_parts : {i : ℕ} → i ≤ 4 → Tree count_line part 0 i → Tree count_line part i 4 → Tree count_line line 0 4
 two_parts {i} within first second =
     rule 1 _ refl (more (rule 0 _ refl (more first (none within))) (more (gap_at i within) (more second (none (lit≤ tt)))))
@@ -98,13 +98,13 @@ two_open =
 pub data Case : Type 0 where
   -- what a settled chart answers about a phrase
   settles : Task → Phrase → Result ℕ ℕ → Case
-  -- which nodes a settled chart reads for it
+  -- the nodes of its reading
   reads : Task → Phrase → List Node → Case
   -- what a working chart answers after so many steps
   works : Task → ℕ → Phrase → Result ℕ ℕ → Case
   -- what the step after so many answers
   steps_on : Task → ℕ → Result ℕ ℕ → Case
-  -- where the weights of a settled chart come from, place by place
+  -- the origins in a settled chart, place by place
   comes_from : Task → List Origin → Case
   -- what a derivation weighs
   weighs : {t : Task} {x i j : ℕ} → Tree t x i j → ℕ → Case
@@ -145,14 +145,14 @@ cases =
     ∷ settles (two_boxes count_rules worst_weights) (about line 0 4) (Ok 40)
     -- by the chance that all marks leave
     ∷ settles (two_boxes count_rules chance_weights) (about line 0 4) (Ok 2143914145)
-    -- with two parts, each 20 dearer
+    -- with a penalty of 20 on each of two parts
     ∷ settles (two_boxes (surcharged part 20 count_rules) sum_weights) (about line 0 4) (Ok 149)
-    -- without words there is a gap of nothing, and no line; one step, and then nothing is open
+    -- without words: the empty gap, but no line; after one step nothing is open
     ∷ settles no_words (about gap 0 0) (Ok 0)
     ∷ settles no_words (about line 0 0) (Err 9)
     ∷ steps_on no_words 0 (Ok 1)
     ∷ steps_on no_words 1 (Err 11)
-    -- round and round is never lighter: 5 comes by its second rule, from the word
+    -- the cycle never pays: 5 comes by its second rule, from the word
     ∷ settles round (about 5 0 1) (Ok 12)
     ∷ comes_from round (FromWord 0 ∷ First 1 0 ∷ [])
     ∷ reads round (about 5 0 1) (node ByRule 1 0 1 ∷ node Heard 0 0 1 ∷ [])
@@ -160,7 +160,7 @@ cases =
     ∷ works two_empties 2 (about 5 0 0) (Err 8)
     ∷ works two_empties 3 (about 5 0 0) (Ok 5)
     ∷ reads two_empties (about 5 0 0) (node ByRule 0 0 0 ∷ node ByRule 1 0 0 ∷ node ByRule 1 0 0 ∷ [])
-    -- the lighter word counts, and among equals the first
+    -- the lighter word wins, and in a tie the first
     ∷ settles (echo 9 4) (about 9 0 1) (Ok 4)
     ∷ comes_from (echo 9 4) (FromWord 1 ∷ [])
     ∷ reads (echo 9 4) (about 9 0 1) (node Heard 1 0 1 ∷ [])

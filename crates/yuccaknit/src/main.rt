@@ -1,4 +1,4 @@
-// Reads heard words from standard input, and tells the lightest line that they make: its weight, and its nodes.
+// The program: reads heard words from standard input, and prints the weight and the nodes of the lightest line.
 #![tactic(auto)]
 
 use line_format::input::read_text;

@@ -25,7 +25,7 @@ pub struct Chart<'a, W, I> {
 }
 
 impl<'a, W: Weighing, I: Index> Chart<'a, W, I> {
-    /// The words arrive, and then, node by node, the rules without right symbols.
+    /// The axioms arrive: words, and then the empty rules at each node.
     pub fn open(rules: &'a [Rule], words: &'a [Word], weighing: W) -> Self {
         let last = words.iter().map(|word| word.to).max().unwrap_or(0);
         let places = Vec::with_capacity(CAPACITY);
@@ -100,7 +100,7 @@ impl<'a, W: Weighing, I: Index> Chart<'a, W, I> {
         }
     }
 
-    /// Finishes the lightest open edge, at the lowest place among equals; then all that follows arrives.
+    /// Pops the lightest open edge, in a tie the one with the lower place, and adds its conclusions.
     pub fn step(&mut self) -> Result<u16, u8> {
         if self.full {
             return Err(FULL);
@@ -224,7 +224,7 @@ impl<'a, W: Weighing, I: Index> Chart<'a, W, I> {
         while self.step().is_ok() {}
     }
 
-    /// The place of a phrase that is finished, or why a settled chart has none.
+    /// The place of a finished phrase, or the number of its refusal.
     fn finished_at(&self, phrase: Phrase) -> Result<usize, u8> {
         let Phrase { symbol, from, to } = phrase;
         if from > to || to > self.last {
@@ -271,7 +271,7 @@ impl<'a, W: Weighing, I: Index> Chart<'a, W, I> {
         })
     }
 
-    /// Lists what a settled chart has found of a phrase, by its origins: each node before its children.
+    /// Lists the derivation of a phrase by its origins, in pre-order.
     pub fn reading(&self, phrase: Phrase, list: &mut [Node]) -> Result<Listed, u8> {
         let at = self.finished_at(phrase)?;
         let weight = self.places[at].weight;
@@ -305,7 +305,7 @@ pub fn weigh<W: Weighing, I: Index>(
     chart.question(phrase)
 }
 
-/// So many readings of one settled chart; the last is answered.
+/// So many readings of one settled chart; answers the last.
 pub fn read<W: Weighing, I: Index>(
     rules: &[Rule],
     words: &[Word],

@@ -42,7 +42,7 @@ fn unread(room: usize) -> Vec<Node> {
     (0..room).map(node).collect()
 }
 
-/// What is read: the phrase asked for, passive edges of the chart, one that is not in it, and what is no stretch.
+/// What is read: the phrase asked for, passive edges of the chart, one that is not in it, and one over no span.
 fn phrases(input: &Input, places: &[Place], all: bool) -> Vec<Phrase> {
     let asked = input.phrase;
     let none = Phrase {

@@ -9,11 +9,11 @@ use std::collections::BinaryHeap;
 pub trait Index: Default {
     /// The place of an edge.
     fn find(&self, places: &[Place], edge: Edge) -> Option<usize>;
-    /// Hears that an edge takes the next free place.
+    /// Notes that an edge takes the next free place.
     fn takes(&mut self, at: usize, edge: Edge);
-    /// Hears what an open place weighs now, by its key.
+    /// Notes the present key of an open place.
     fn weighs(&mut self, at: usize, key: u64);
-    /// Hears that a place is finished.
+    /// Notes that a place is finished.
     fn finishes(&mut self, at: usize, edge: Edge, rules: &[Rule]);
     /// The open place with the smallest key, the lowest among equals.
     fn lightest_open(&mut self, places: &[Place], key: impl Fn(u64) -> u64) -> Option<usize>;

@@ -160,7 +160,7 @@ fn saturated() -> Input {
     }
 }
 
-/// All trees over 31 words: every stretch is an S, in every way to cut it in two. 1,023 edges.
+/// All binary trees over 31 words: every span is an S, in every way to cut it in two. 1,023 edges.
 fn all_trees(name: &'static str, by: By) -> Input {
     const S: u8 = 200;
     const A: u8 = 201;

@@ -175,7 +175,7 @@ fn compared(input: &Input, all: bool) -> Found {
     found
 }
 
-/// Compares the inputs that are timed, and tells what each gave.
+/// Compares the inputs that are timed, and prints what each gave.
 fn compare_timed() -> usize {
     let mut differences = 0;
     let mut readings = Readings::default();
@@ -200,7 +200,7 @@ fn compare_timed() -> usize {
     differences
 }
 
-/// Compares inputs that look random, and tells what they gave together.
+/// Compares inputs that look random, and prints what they gave together.
 fn compare_random(count: usize) -> usize {
     let mut numbers = Numbers(0x5EED);
     let (mut edges, mut differences) = (0, 0);

@@ -38,7 +38,7 @@ impl Rule {
     }
 }
 
-/// A symbol over a stretch; laid out as the export has it.
+/// A symbol over a span; laid out as the export has it.
 #[repr(C)]
 #[derive(Clone, Copy, PartialEq, Eq, Debug)]
 pub struct Phrase {
@@ -47,7 +47,7 @@ pub struct Phrase {
     pub to: u8,
 }
 
-/// A node of a reading: a rule or a word by its number, over a stretch; laid out as the export has it.
+/// A node of a reading: a rule or a word by its number, over a span; laid out as the export has it.
 #[repr(C)]
 #[derive(Clone, Copy, PartialEq, Eq, Debug)]
 pub struct Node {
@@ -143,7 +143,7 @@ pub enum Edge {
     },
 }
 
-/// Where a weight came from; places are told by their numbers.
+/// The inference that a weight came from; places are named by their numbers.
 #[derive(Clone, Copy, PartialEq, Eq, Debug)]
 pub enum Origin {
     Word(u8),

@@ -1,4 +1,4 @@
-// Charts of just as many edges as there is room for, and of one more.
+// Cases of charts that hold as many edges as they have room for, and of charts that are full.
 use crate::charts::Final::{Nodes, Read, Weight};
 use crate::charts::Move::{Ask, Step, Steps};
 use crate::making::{Words, node, rule, word};
@@ -14,7 +14,7 @@ use crate::theme::Theme;
 use grammars::count::{LINE, ONE};
 use telling::rows;
 
-// 96 rules at 10 nodes, and 64 words over them with symbols from 100 on.
+// 96 empty rules at 10 nodes and 64 words: 1,024 edges.
 const JUST_FULL: Over = Over(
     Empty(rule!(95, 0, [0; 4], 7)),
     Rows(&[Words(64, word!(0, 9, 100, 3), 0, 1)]),
@@ -28,7 +28,7 @@ const ONE_TOO_MANY: Over = Over(
     Sum,
 );
 
-// 95 rules at 10 nodes and 74 words are 1,024 edges; the last rule makes a further one of the first word, whose mark is 5.
+// 95 empty rules at 10 nodes and 74 words: 1,024 edges; the last rule makes one more, of the first word.
 const FILLING: Over = Over(
     Empty(rule!(200, 1, [100, 0, 0, 0], 0)),
     Rows(&[
@@ -38,16 +38,14 @@ const FILLING: Over = Over(
     Sum,
 );
 
-// Numbers one after the other, each a word without doubt.
+// Numbers in a row, without doubt.
 const NUMBERS_20: Over = Over(Counts, Rows(&[Words(20, word!(0, 1, ONE, 0), 1, 0)]), Sum);
 
 const NUMBERS_31: Over = Over(Counts, Rows(&[Words(31, word!(0, 1, ONE, 0), 1, 0)]), Sum);
 
-// With one word more than there is room for, the chart is full when it is opened, and takes no step. Over the filling, the step that
-// finishes the first word fills the chart: it is refused, and its edge is finished. The same is a run of 80 steps, of which 73 are
-// answered; and what is finished in a full chart is read: the first word is its own reading.
-// A line of numbers has a part for each, and a line over each stretch: 31 of them are more than a chart has room for. Which lines
-// are finished before it is full is what the model of tools/fuzz says too.
+// One word too many makes the chart full when it is opened. `FILLING` gets full at step 74, which is refused and has
+// finished the first word: a full chart still reads it. A line of 31 numbers has more edges than a chart has room for;
+// which of them are finished before it is full was compared with the model of tools/fuzz.
 const THEMES: &[Theme] = &[
     Theme(
         "1,024 edges",

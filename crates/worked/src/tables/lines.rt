@@ -1,11 +1,11 @@
-// Lines that texts write, as the program reads them: by the stock counts, doubts added up, from node 0 to the last.
+// Cases of texts, as the program reads them.
 use crate::texts::Text::{Length, Weight};
 use crate::theme::Cases::Texts;
 use crate::theme::Theme;
 use telling::rows;
 
-// "Two box, open one" with and without its last line feed, and a word that was heard three times. The form is judged before the words,
-// and the words before the line.
+// "Two box, open one" with and without its last line feed, and a word that was heard three times. Of two faults that of the
+// form is reported first, then that of a word.
 const THEMES: &[Theme] = &[Theme(
     "line of a text",
     Texts(rows! {

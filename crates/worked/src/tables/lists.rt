@@ -1,4 +1,4 @@
-// How many words, bytes and rules there may be, where words may stand, how long rules may be, and what a refused check leaves.
+// Cases of lists at their limits, and of what a refused check keeps.
 use crate::checks::{Bytes, Next, RuleCheck, TooMany, WordCheck};
 use crate::looks::RuleLook::{self, Length, Right};
 use crate::looks::WordLook::{Count, End, LastNode, Symbol};
@@ -12,7 +12,7 @@ use crate::theme::Cases::{KeptBytes, KeptRules, KeptWords, Rules, Scripts, Words
 use crate::theme::Theme;
 use telling::rows;
 
-// What words and rules are does not matter here.
+// Any word and any rule.
 macro_rules! between {
     ($from:expr, $to:expr) => {
         word!($from, $to, 7, 9)

@@ -1,4 +1,4 @@
-// The tables of cases, each of one subject.
+// All tables of worked cases.
 pub(crate) mod full;
 pub(crate) mod lines;
 pub(crate) mod lists;
@@ -12,7 +12,7 @@ pub(crate) mod weights;
 
 use crate::theme::Theme;
 
-// All of them, in order.
+// The tables in the order of the report.
 pub(crate) fn all() -> [&'static [Theme]; 11] {
     [
         two_boxes::themes(),

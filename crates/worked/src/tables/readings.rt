@@ -1,4 +1,4 @@
-// Readings: the nodes of the lightest derivation, each before its children, written into a caller's list.
+// Cases of readings: the nodes of the lightest derivation, and what becomes of the caller's list.
 use crate::charts::Final::{Nodes, Read};
 use crate::making::{node, phrase};
 use crate::readings::{BLANK, Listed};
@@ -15,7 +15,7 @@ use chart_model::node::Node;
 use grammars::count::{LINE, PART};
 use telling::rows;
 
-// "Two box, open one": two boxes, a gap of nothing, and one that is open, whose nodes are the last four.
+// The reading of "two box, open one"; the open one has the last four nodes.
 const NODES: &[Node] = &[
     node!(Rule, 1, 0, 4),
     node!(Rule, 0, 0, 2),
@@ -30,8 +30,8 @@ const NODES: &[Node] = &[
     node!(Word, 3, 3, 4),
 ];
 
-// Into a list just as long, and into a longer one, which a part is read into after that; into lists that are too short: as many nodes as
-// there is room for are written; and what is refused as a question is leaves the list as it was.
+// Lists just as long as the reading; longer, with a part read into them after that; too short, which hold the first nodes
+// then; and refused questions, which leave the list alone.
 const WRITTEN: &[Theme] = &[Theme(
     "reading",
     Scripts(
@@ -83,7 +83,7 @@ const WRITTEN: &[Theme] = &[Theme(
     ),
 )];
 
-// In one call: a symbol that derives itself, a symbol of two of nothing, words that were heard twice, and the line again.
+// In one call: a cycle, a symbol of two empty ones, words heard twice, and the line again.
 const IN_ONE_CALL: &[Theme] = &[
     Theme(
         "reading",

@@ -1,4 +1,4 @@
-// Refused questions and texts, and what they leave.
+// Cases of refused questions and texts.
 use crate::charts::Final::Weight;
 use crate::charts::Move::{Ask, Step};
 use crate::script::Script::Chart;
@@ -12,8 +12,8 @@ use crate::theme::Theme;
 use grammars::count::{GAP, LINE, NUM, PART};
 use telling::rows;
 
-// A working chart over "two box, open one": what is no stretch is refused before what is not finished, and no question changes the
-// chart. The same chart settled. Texts that are read as words, and texts that are not of the form.
+// Questions to a chart over "two box, open one", before and after it is settled: 7 comes before 8, and nothing changes by
+// asking. Then texts that are of the form, and texts that are not.
 const THEMES: &[Theme] = &[
     Theme(
         "working",

@@ -1,4 +1,4 @@
-// Runs over "two box, open one": a list of calls and of questions at the end, which answer as the calls do one by one.
+// Cases of runs over "two box, open one".
 use crate::making::{phrase, question};
 use crate::runs::Left::{Asked, Called, Finished, Weight};
 use crate::runs::{Alike, STEP};
@@ -13,14 +13,14 @@ use chart::call::{Call, FinalQuestion};
 use grammars::count::{BOX, GAP, LINE, NUM, TWO};
 use telling::rows;
 
-// A call that asks.
+// A question as a call.
 macro_rules! ask {
     ($symbol:expr, $from:expr, $to:expr) => {
         Call::Question(question!($symbol, $from, $to))
     };
 }
 
-// The first five steps finish the gaps of nothing, and the sixth the word two.
+// Five steps finish the empty gaps, and the sixth the word two.
 const CALLS: &[Call] = &[
     ask!(GAP, 0, 0),
     STEP,
@@ -36,7 +36,7 @@ const CALLS: &[Call] = &[
     ask!(LINE, 0, 4),
 ];
 
-// What is asked in the end.
+// The final questions.
 const QUESTIONS: &[FinalQuestion] = &[
     question!(LINE, 0, 4),
     question!(NUM, 0, 1),
@@ -44,7 +44,7 @@ const QUESTIONS: &[FinalQuestion] = &[
     question!(LINE, 0, 5),
 ];
 
-// A run with questions at the end, and runs that do not settle, or make no call, or ask nothing at the end.
+// A run with final questions; runs that do not settle, that make no call, and that settle without a question.
 const THEMES: &[Theme] = &[Theme(
     "run",
     Scripts(

@@ -1,4 +1,4 @@
-// Small charts: without words, with a rule that goes round, with symbols of nothing.
+// Cases of small charts: no words, a cycle of rules, empty symbols.
 use crate::charts::Final::Weight;
 use crate::charts::Move::{Ask, Step};
 use crate::making::{rule, word};
@@ -12,23 +12,23 @@ use crate::theme::Theme;
 use grammars::count::{BOX, GAP, LINE, ONE, OPEN, TWO};
 use telling::rows;
 
-// A symbol that derives itself, over the word that it begins with.
+// A symbol that derives itself, over one word.
 pub(crate) const ROUND: Over = Over(
     Ruled(&[rule!(5, 1, [5, 0, 0, 0], 0), rule!(5, 1, [9, 0, 0, 0], 7)]),
     Heard(&[word!(0, 1, 9, 5)]),
     Sum,
 );
 
-// A symbol of two symbols, each of nothing.
+// A symbol of two empty ones.
 pub(crate) const EMPTIES: Over = Over(
     Ruled(&[rule!(5, 2, [6, 6, 0, 0], 1), rule!(6, 0, [0, 0, 0, 0], 2)]),
     Typed(b""),
     Sum,
 );
 
-// No words, by the stock counts: there is a gap of nothing, and no line. Of two of nothing, the nothing and the symbol begun with it are
-// finished after two steps, and the whole is still to come. The bytes of "two box, open one", typed, are words without doubt, so that
-// only the marks of rules are left.
+// Without words the stock counts derive an empty gap, but no line. The symbol of two empty ones takes three steps: the
+// empty one, the active edge, and the whole. A typed "two box, open one" has no doubt in its words, so it weighs the marks
+// of its rules.
 const THEMES: &[Theme] = &[
     Theme(
         "no words",

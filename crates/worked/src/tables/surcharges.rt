@@ -1,4 +1,4 @@
-// Piles of surcharges on the stock counts: on one symbol, on several, and up to the greatest mark.
+// Cases of penalties on the stock counts: on one symbol, on several, and up to the greatest mark.
 use crate::looks::RuleLook::{Count, Mark};
 use crate::script::Script::Rules;
 use crate::settings::Over;
@@ -24,8 +24,8 @@ const THREE: Over = Over(
     Sum,
 );
 
-// Rule 1 is that of a line and another part, rule 2 that of a number and boxes, rule 7 that of the number two, and rule 9 that of a gap
-// of nothing. The line "two box, open one" has two parts, a gap of nothing, and two rules of a line.
+// Rule 1 lengthens a line by a part, rule 2 is a number of boxes, rule 7 the number two, and rule 9 the empty gap. The line
+// "two box, open one" has two parts, the empty gap, and two rules of a line.
 const THEMES: &[Theme] = &[
     Theme(
         "surcharges",

@@ -1,4 +1,4 @@
-// "Two box, open one", as it was heard, by the stock counts: two boxes, and one that is open.
+// Cases of "two box, open one" by the stock counts: two boxes, and an open one.
 use crate::charts::Final::Weight;
 use crate::making::{phrase, word};
 use crate::script::Script::Chart;
@@ -23,8 +23,7 @@ pub(crate) const TWO_BOXES: Line = Heard(&[
 // The whole line.
 pub(crate) const WHOLE: Phrase = phrase!(LINE, 0, 4);
 
-// The line by each weighing, where the chances are those of all words and rules multiplied, as each is joined, from left to right; and
-// its parts in the settled chart.
+// The line by each weighing, and then the parts of it in a settled chart.
 const THEMES: &[Theme] = &[
     Theme(
         "two boxes, open one",

@@ -1,4 +1,4 @@
-// What marks weigh, how weights are joined, and which line is the lightest by each weighing.
+// Cases of marks, of joined weights, and of the lightest line by each weighing.
 use crate::looks::Code::{Join, Mark};
 use crate::making::{phrase, word};
 use crate::script::Script::Codes;
@@ -12,15 +12,13 @@ use crate::theme::Theme;
 use grammars::count::{BOX, ONE, OPEN, THREE, TWO};
 use telling::rows;
 
-// One half, and next to none.
+// The chances of one half, and of mark 65,535.
 const HALF: u64 = 1_073_741_824;
 
 const LEAST: u64 = 32_768;
 
-// A line of which each word was heard twice. "Two box, open one" has one word of great doubt, and "two box, three box" has two
-// of some doubt. The first has the lesser sum; the second has the lesser worst doubt, and the greater chance.
-// Reckoned by going round the rules until nothing gets lighter, as tools/fuzz does it for sums, and by hand along both
-// derivations: 31,509 and 33,108; 30,000 and 17,000; 1,137,781,619 and 1,205,704,163.
+// Each word was heard in two ways. "Two box, open one" has the smaller sum, 31,509 against 33,108 of "two box, three box",
+// which has the smaller worst mark, 17,000 against 30,000, and the greater chance, 1,205,704,163 against 1,137,781,619.
 const TWICE: Line = Heard(&[
     word!(0, 1, TWO, 100),
     word!(0, 1, THREE, 200),
@@ -32,14 +30,14 @@ const TWICE: Line = Heard(&[
     word!(3, 4, BOX, 15_000),
 ]);
 
-// One word heard twice.
+// One word, heard twice.
 pub(crate) const LIGHTER_LAST: Line = Heard(&[word!(0, 1, 9, 9), word!(0, 1, 9, 4)]);
 
 pub(crate) const LIGHTER_FIRST: Line = Heard(&[word!(0, 1, 9, 4), word!(0, 1, 9, 9)]);
 
 pub(crate) const EQUAL: Line = Heard(&[word!(0, 1, 9, 4), word!(0, 1, 9, 4)]);
 
-// Codes at the ends of their ranges, and words that were heard twice.
+// Codes at the ends of their ranges, and words heard twice.
 const THEMES: &[Theme] = &[
     Theme(
         "chance",
