@@ -124,10 +124,10 @@ def main():
         if printed.startswith("weight"):
             first, *lines = printed.splitlines()
             nodes = [(kind, *map(int, numbers)) for kind, *numbers in (line.split(" ") for line in lines)]
-            told = model.weight_of(model.STOCK_COUNTS, model.words_of(text), nodes, model.LINE, 0, chart.last)
+            expected = model.weight_of(model.STOCK_COUNTS, model.words_of(text), nodes, model.LINE, 0, chart.last)
             readings += 1
             most = max(most, len(nodes))
-            if first != f"weight {told}":
+            if first != f"weight {expected}":
                 differences += 1
                 print(f"turn {turn}: {printed!r} is no derivation of its weight, for {text!r}")
         if chart is not None and not chart.full and len(chart.edges) < 300:

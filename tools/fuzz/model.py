@@ -109,14 +109,14 @@ class Chart:
             self.weights[at] = weight
             self.origins[at] = origin
 
-    def reached(self, rule, seen, start, end):
+    def rule_edge(self, rule, seen, start, end):
         left, right, _ = self.rules[rule]
         if seen == len(right):
             return ("passive", left, start, end)
         return ("active", rule, seen, start, end)
 
     def step(self):
-        """Finishes the lightest open edge, at the lowest place among equals; False where none is."""
+        """Pops the least (weight, place) of the agenda; False if it is empty or the chart full."""
         best = None
         for at in range(len(self.edges)):
             if not self.done[at] and (best is None or self.weights[at] < self.weights[best]):
@@ -130,18 +130,18 @@ class Chart:
             _, symbol, start, end = edge
             for rule, (_, right, mark) in enumerate(self.rules):
                 if right and right[0] == symbol:
-                    arrivals.append((self.reached(rule, 1, start, end), join(mark, weight), ("first", rule, best)))
+                    arrivals.append((self.rule_edge(rule, 1, start, end), join(mark, weight), ("first", rule, best)))
             for at, other in enumerate(self.edges):
                 if self.done[at] and other[0] == "active":
                     _, rule, seen, from_, meets = other
                     if meets == start and self.rules[rule][1][seen] == symbol:
-                        arrivals.append((self.reached(rule, seen + 1, from_, end), join(self.weights[at], weight), ("next", at, best)))
+                        arrivals.append((self.rule_edge(rule, seen + 1, from_, end), join(self.weights[at], weight), ("next", at, best)))
         else:
             _, rule, seen, start, meets = edge
             wanted = self.rules[rule][1][seen]
             for at, other in enumerate(self.edges):
                 if self.done[at] and other[0] == "passive" and other[1] == wanted and other[2] == meets:
-                    arrivals.append((self.reached(rule, seen + 1, start, other[3]), join(weight, self.weights[at]), ("next", best, at)))
+                    arrivals.append((self.rule_edge(rule, seen + 1, start, other[3]), join(weight, self.weights[at]), ("next", best, at)))
         for arrival in arrivals:
             self.arrive(*arrival)
         return not self.full
@@ -160,7 +160,7 @@ class Chart:
         raise Refused(10 if self.full else 9)
 
     def nodes(self, at):
-        """The nodes of the edge at a place: its own if it is passive, and those of its children, left to right."""
+        """The pre-order below a place; active edges have no root."""
         edge, origin = self.edges[at], self.origins[at]
         if origin[0] == "word":
             return [("word", origin[1], edge[2], edge[3])]

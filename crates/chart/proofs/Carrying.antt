@@ -5,23 +5,23 @@ use Rattle.std.specs.Option.{option_map}
 use Rattle.std.proofs.lemmas.Bool.{cases_Bool}
 use Rattle.std.proofs.lemmas.Iterator.Adapters.{position_from-zero}
 use Rattle.std.proofs.lemmas.List.Quantifiers.{position-Some}
-use Rattle.chart_model.specs.Plain.{same_edge, is_open, unused, seen, standing, place_of, carried}
+use Rattle.chart_model.specs.Plain.{same_edge, is_open, unused, entry, finished_entry, place_of, carried}
 use Rattle.chart_model.specs.declared.edge.Edge.{Edge}
 use Rattle.chart_model.specs.declared.place.Place.{Place}
-use Rattle.chart_model.specs.declared.place.Standing.{Standing}
+use Rattle.chart_model.specs.declared.place.Entry.{Entry}
 use Rattle.chart_model.proofs.Members.{none_some}
-use Rattle.chart.specs.View.{standing_at, standing_of}
+use Rattle.chart.specs.View.{finished_entry_at, finished_entry_of}
 
 -- the weight at a place, if the edge there is finished
 abbrev weight_of : Option Place → Option ℕ
 weight_of None = None
-weight_of (Some p) = elim (is_open p.finished) [ true ↦ None | false ↦ Some p.weight ]
+weight_of (Some p) = elim (is_open p.rank) [ true ↦ None | false ↦ Some p.weight ]
 
-standing_weight : (n : ℕ) (o : Option Place) → option_map (λ (s : Standing). s.weight) (elim o [ None ↦ None | Some p ↦ standing n p ]) ≡ weight_of o
-standing_weight n None = refl
-standing_weight n (Some p) = go p.finished
+entry_weight : (n : ℕ) (o : Option Place) → option_map (λ (s : Entry). s.weight) (elim o [ None ↦ None | Some p ↦ finished_entry n p ]) ≡ weight_of o
+entry_weight n None = refl
+entry_weight n (Some p) = go p.rank
   where
-    go : (m : Option ℕ) → option_map (λ (s : Standing). s.weight) (elim m as (λ _. Option Standing) [ None ↦ None | Some k ↦ Some (seen n p) ])
+    go : (m : Option ℕ) → option_map (λ (s : Entry). s.weight) (elim m as (λ _. Option Entry) [ None ↦ None | Some k ↦ Some (entry n p) ])
         ≡ elim (is_open m) as (λ _. Option ℕ) [ true ↦ None | false ↦ Some p.weight ]
     go None = refl
     go (Some k) = refl
@@ -47,11 +47,11 @@ module _ (e : Edge) where
       (λ (other : has p ≡ false). rw (other, carried) (uncarried (m + 1) ps (rw other at h)))
       (cases_Bool (has p))
 
-  pub carried_standing : (ps : List Place) → option_map (λ (s : Standing). s.weight) (standing_of e ps) ≡ carried e ps
-  carried_standing ps = go (place_of e ps) refl
+  pub carried_entry : (ps : List Place) → option_map (λ (s : Entry). s.weight) (finished_entry_of e ps) ≡ carried e ps
+  carried_entry ps = go (place_of e ps) refl
     where
-      go : (o : Option ℕ) → place_of e ps ≡ o → option_map (λ (s : Standing). s.weight) (elim o as (λ _. Option Standing) [ None ↦ None | Some n ↦ standing_at ps n ]) ≡ carried e ps
+      go : (o : Option ℕ) → place_of e ps ≡ o → option_map (λ (s : Entry). s.weight) (elim o as (λ _. Option Entry) [ None ↦ None | Some n ↦ finished_entry_at ps n ]) ≡ carried e ps
       go None h = uncarried 0 ps (sym (position_from-zero has ps) ∙ h)
       go (Some k) h =
           let (within, here, before) = position-Some has ps k unused h in
-          standing_weight k (slice_get ps k) ∙ carried_at k ps unused within here before
+          entry_weight k (slice_get ps k) ∙ carried_at k ps unused within here before

@@ -5,17 +5,17 @@ use Rattle.chart_model.specs.Plain.{Chart, done, finish, arrive, finishing, ligh
 use Rattle.chart_model.specs.Stands.{Fits}
 use Rattle.chart_model.specs.Origins.{orderly}
 use Rattle.chart_model.specs.declared.place.Arrival.{Arrival}
-use Rattle.chart_model.specs.declared.place.Standing.{Standing}
+use Rattle.chart_model.specs.declared.place.Entry.{Entry}
 use Rattle.chart_model.proofs.Members.{nth_below}
 use Rattle.chart_model.proofs.Arriving.{arrive_all_done, arrive_all_fits}
 use Rattle.chart_model.proofs.Done.{done_within}
 use Rattle.chart_model.proofs.Finishing.{finish_done, finish_length}
 use Rattle.chart_model.proofs.Lightest.{lightest_stands}
-use Rattle.chart_model.proofs.Numbering.{number_within, earlier_parts, count_arrive, orderly_arrive, earlier_now, orderly_finish}
+use Rattle.chart_model.proofs.Numbering.{rank_within, before_parts, count_arrive, orderly_arrive, before_now, orderly_finish}
 use Rattle.chart.specs.declared.places.Places.{Places}
 use Rattle.chart.specs.declared.table.Table.{Table}
 use Rattle.chart.specs.Charts.{held}
-use Rattle.chart.specs.View.{room, view, Named, NamesEarlier}
+use Rattle.chart.specs.View.{room, view, IsFinished, NamesFinished}
 
 -- what holds of the plain chart of a table
 pub record Kept (c : Chart) : Type 0 where
@@ -44,24 +44,24 @@ finished_within t =
     let counted = t.counted in
     omega arith
 
-pub kept_arrive : (lighter : ℕ → ℕ → Bool) (c : Chart) (a : Arrival) → Kept c → NamesEarlier c a → Kept (arrive room lighter c a)
-kept_arrive lighter c a kept named =
+pub kept_arrive : (lighter : ℕ → ℕ → Bool) (c : Chart) (a : Arrival) → Kept c → NamesFinished c a → Kept (arrive room lighter c a)
+kept_arrive lighter c a kept names =
     record {
       fits = arrive_all_fits room lighter (a ∷ []) c kept.fits;
       counted = arrive_all_done room lighter (a ∷ []) c ∙ kept.counted ∙ sym (count_arrive lighter a room c);
-      orderly = orderly_arrive lighter a room c kept.orderly named;
+      orderly = orderly_arrive lighter a room c kept.orderly names;
     }
 
 -- what holds of an edge that a search has found
-pub record Found (c : Chart) (s : Standing) : Type 0 where
+pub record Found (c : Chart) (s : Entry) : Type 0 where
   -- it stands at a place, and there is a number left for it
   pub within : s.at < length c.places
   pub left : c.finished < room
   -- once it is finished, the table keeps all, and origins may name its place
   pub kept : Kept (finishing c s.at)
-  pub named : Named (finishing c s.at) s.at
+  pub is_finished : IsFinished (finishing c s.at) s.at
 
-pub found : (lighter : ℕ → ℕ → Bool) (c : Chart) → Kept c → (s : Standing) → lightest_open lighter c.places ≡ Some s → Found c s
+pub found : (lighter : ℕ → ℕ → Bool) (c : Chart) → Kept c → (s : Entry) → lightest_open lighter c.places ≡ Some s → Found c s
 found lighter c was s h =
     let it = lightest_stands lighter c.places s h in
     let number = suc c.finished in
@@ -79,9 +79,9 @@ found lighter c was s h =
             counted = more ∙ ap suc counted;
             orderly = orderly_finish c s.at it.place it.there it.still_open was.orderly;
           };
-      named = earlier_now c s.at it.place it.there it.still_open;
+      is_finished = before_now c s.at it.place it.there it.still_open;
     }
 
 -- a place that origins may name is taken
-pub named_within : (c : Chart) (n : ℕ) → Named c n → n < length c.places
-named_within c n h = number_within c.places n (earlier_parts c.places (suc c.finished) n h).0
+pub is_finished_within : (c : Chart) (n : ℕ) → IsFinished c n → n < length c.places
+is_finished_within c n h = rank_within c.places n (before_parts c.places (suc c.finished) n h).0

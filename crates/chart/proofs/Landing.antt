@@ -56,14 +56,14 @@ module _ (lighter : ℕ → ℕ → Bool) (a : Arrival) where
       record { held = rw other later.held; new = rw (other, placed) (ap (λ qs. p ∷ qs) later.new) })
       (cases_Bool (has p))
 
-  improved_finished : (p : Place) → is_open p.finished ≡ false → improved lighter a p ≡ p
+  improved_finished : (p : Place) → is_open p.rank ≡ false → improved lighter a p ≡ p
   improved_finished p h = rw (h, improved)
 
   improved_heavier : (p : Place) → lighter a.weight p.weight ≡ false → improved lighter a p ≡ p
-  improved_heavier p h = rw (and_right (is_open p.finished) (lighter a.weight p.weight) h, improved)
+  improved_heavier p h = rw (and_right (is_open p.rank) (lighter a.weight p.weight) h, improved)
 
-  improved_lighter : (p : Place) → is_open p.finished ≡ true → lighter a.weight p.weight ≡ true → improved lighter a p ≡ lightened a p
-  improved_lighter p h l = rw (and_from (is_open p.finished) (lighter a.weight p.weight) h l, improved)
+  improved_lighter : (p : Place) → is_open p.rank ≡ true → lighter a.weight p.weight ≡ true → improved lighter a p ≡ lightened a p
+  improved_lighter p h l = rw (and_from (is_open p.rank) (lighter a.weight p.weight) h l, improved)
 
   -- an arrival at places that are not full
   module _ (p : Places) (unfilled : p.full ≡ false) where
@@ -87,15 +87,15 @@ module _ (lighter : ℕ → ℕ → Bool) (a : Arrival) where
       stays : improved lighter a (get_or ps k d) ≡ get_or ps k d → view p ≡ arrive room lighter (view p) a
       stays same = sym (arrive_held ∙ ap changed (modified_same (improved lighter a) d k ps same))
 
-      pub arrives_finished : is_open (get_or p.slots k d).finished ≡ false → view p ≡ arrive room lighter (view p) a
-      arrives_finished shut = stays (improved_finished (get_or ps k d) (rw slot shut))
+      pub arrives_finished : is_open (get_or p.slots k d).rank ≡ false → view p ≡ arrive room lighter (view p) a
+      arrives_finished closed = stays (improved_finished (get_or ps k d) (rw slot closed))
 
       pub arrives_heavier : lighter a.weight (get_or p.slots k d).weight ≡ false → view p ≡ arrive room lighter (view p) a
       arrives_heavier heavy = stays (improved_heavier (get_or ps k d) (rw slot heavy))
 
-      pub arrives_lighter : is_open (get_or p.slots k d).finished ≡ true → lighter a.weight (get_or p.slots k d).weight ≡ true → improve (view p) k a ≡ arrive room lighter (view p) a
-      arrives_lighter opened light =
-          sym (arrive_held ∙ ap changed (modified_alike (improved lighter a) (lightened a) d k ps (improved_lighter (get_or ps k d) (rw slot opened) (rw slot light))))
+      pub arrives_lighter : is_open (get_or p.slots k d).rank ≡ true → lighter a.weight (get_or p.slots k d).weight ≡ true → improve (view p) k a ≡ arrive room lighter (view p) a
+      arrives_lighter queued light =
+          sym (arrive_held ∙ ap changed (modified_alike (improved lighter a) (lightened a) d k ps (improved_lighter (get_or ps k d) (rw slot queued) (rw slot light))))
 
     -- with an edge that has no place yet
     module _ (none : None ≡ place_of a.edge ps) where

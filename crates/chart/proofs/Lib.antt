@@ -10,9 +10,9 @@ pub mod Staying
 pub mod Settling
 pub mod Advancing
 pub mod Soundness
-pub mod Reaching
+pub mod Reachability
 pub mod Turns
 pub mod Runs
-pub mod Overlay
+pub mod Overwriting
 pub mod Walking
-pub mod Readings
+pub mod Finding

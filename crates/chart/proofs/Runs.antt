@@ -6,8 +6,8 @@ use Rattle.chart_model.specs.Task.{Task}
 use Rattle.chart_model.specs.Plain.{Chart}
 use Rattle.chart_model.specs.Saying.{SettledSays}
 use Rattle.chart_model.specs.declared.phrase.Phrase.{Phrase}
-use Rattle.chart.specs.Calls.{FinalQuestion, TellsTruth, TruthTold}
-use Rattle.chart.specs.Refusals.{settled_number, told}
+use Rattle.chart.specs.Calls.{FinalQuestion, AnswersTruly, AllTrue}
+use Rattle.chart.specs.Refusals.{settled_number, by_number}
 use Rattle.chart.specs.View.{room}
 use Rattle.chart.specs.declared.refusal.SettledRefusal.{SettledRefusal}
 
@@ -22,9 +22,9 @@ all_next P xs i x within all one = subst (AllByRecursion P) (sym (take_more_set 
 
 -- one question more, truly answered
 pub truth_next : (t : Task) (c : Chart) (questions : List FinalQuestion) (i : ℕ) (p : Phrase) (r : Result ℕ SettledRefusal) → i < length questions →
-    TruthTold t c (take i questions) → SettledSays t room c p (told settled_number r) →
-    TruthTold t c (take (i + 1) (set questions i (record { phrase = p; answer = Some r })))
-truth_next t c questions i p r within so_far says = all_next (TellsTruth t c) questions i (record { phrase = p; answer = Some r }) within so_far one
+    AllTrue t c (take i questions) → SettledSays t room c p (by_number settled_number r) →
+    AllTrue t c (take (i + 1) (set questions i (record { phrase = p; answer = Some r })))
+truth_next t c questions i p r within so_far says = all_next (AnswersTruly t c) questions i (record { phrase = p; answer = Some r }) within so_far one
   where
-    one : TellsTruth t c (record { phrase = p; answer = Some r })
-    one a e = let same : r ≡ a = cc in subst (λ (x : Result ℕ SettledRefusal). SettledSays t room c p (told settled_number x)) same says
+    one : AnswersTruly t c (record { phrase = p; answer = Some r })
+    one a e = let same : r ≡ a = cc in subst (λ (x : Result ℕ SettledRefusal). SettledSays t room c p (by_number settled_number x)) same says

@@ -2,22 +2,22 @@
 use Rattle.std.proofs.Common.{◌≡◌, ℕ, zero, suc, ◌+◌, ◌≤◌, Bool, true, false, ◌||◌, ◌⊎◌, Some, None, Ok, Err, Option, Result, is_none, is_ok, sym, refl, ap, ◌∙◌, inl, inr, arith}
 use Rattle.std.proofs.lemmas.Bool.{true≢false, false≢true}
 use Rattle.chart_model.specs.Task.{Task}
-use Rattle.chart_model.specs.Plain.{Chart, finishing, arrivals, lightest_open, counted, step, step_answer, steps, stopped, settled}
-use Rattle.chart_model.specs.declared.place.Standing.{Standing}
+use Rattle.chart_model.specs.Plain.{Chart, finishing, arrivals, lightest_open, count_unless_full, step, step_answer, steps, stopped, settled}
+use Rattle.chart_model.specs.declared.place.Entry.{Entry}
 use Rattle.chart_model.proofs.Arriving.{arrive_all_count}
-use Rattle.chart.specs.Refusals.{step_number, told}
+use Rattle.chart.specs.Refusals.{step_number, by_number}
 use Rattle.chart.specs.View.{room}
 use Rattle.chart.specs.declared.refusal.StepRefusal.{StepRefusal}
-use Rattle.chart.proofs.Advancing.{full_steps, none_steps, some_steps, counted_err}
+use Rattle.chart.proofs.Advancing.{full_steps, none_steps, some_steps, count_unless_full_err}
 
 -- an answer by number is a count of edges, or the number of a refusal
-pub told_ok : (r : Result ℕ StepRefusal) (answer : Result ℕ ℕ) → is_ok r ≡ true → told step_number r ≡ answer → (n : ℕ) × (Ok n ≡ answer)
-told_ok (Ok n) answer ok said = (n, said)
-told_ok (Err e) answer ok said = absurd (false≢true ok)
+pub by_number_ok : (r : Result ℕ StepRefusal) (answer : Result ℕ ℕ) → is_ok r ≡ true → by_number step_number r ≡ answer → (n : ℕ) × (Ok n ≡ answer)
+by_number_ok (Ok n) answer ok said = (n, said)
+by_number_ok (Err e) answer ok said = absurd (false≢true ok)
 
-pub told_err : (r : Result ℕ StepRefusal) (answer : Result ℕ ℕ) → is_ok r ≡ false → told step_number r ≡ answer → (n : ℕ) × (Err n ≡ answer)
-told_err (Ok n) answer err said = absurd (true≢false err)
-told_err (Err e) answer err said = (step_number e, said)
+pub by_number_err : (r : Result ℕ StepRefusal) (answer : Result ℕ ℕ) → is_ok r ≡ false → by_number step_number r ≡ answer → (n : ℕ) × (Err n ≡ answer)
+by_number_err (Ok n) answer err said = absurd (true≢false err)
+by_number_err (Err e) answer err said = (step_number e, said)
 
 module _ (t : Task) where
   -- a stopped chart is refused a step, which changes nothing
@@ -31,7 +31,7 @@ module _ (t : Task) where
   record Busy (c : Chart) : Type 0 where
     pub stopped : stopped t c ≡ false
     pub more : (step t room c).finished ≡ suc c.finished
-    pub answers : step_answer t room c ≡ counted (step t room c)
+    pub answers : step_answer t room c ≡ count_unless_full (step t room c)
 
   full_stopped : (c : Chart) → c.full ≡ true → stopped t c ≡ true
   full_stopped c full = ap (λ b. b || is_none (lightest_open t.weights.lighter c.places)) full
@@ -39,10 +39,10 @@ module _ (t : Task) where
   ways : (c : Chart) → Idle c ⊎ Busy c
   ways c = go c.full refl
     where
-      found : c.full ≡ false → (o : Option Standing) → lightest_open t.weights.lighter c.places ≡ o → stopped t c ≡ is_none o
+      found : c.full ≡ false → (o : Option Entry) → lightest_open t.weights.lighter c.places ≡ o → stopped t c ≡ is_none o
       found unfilled o is = ap (λ b. b || is_none (lightest_open t.weights.lighter c.places)) unfilled ∙ ap is_none is
 
-      either : c.full ≡ false → (o : Option Standing) → lightest_open t.weights.lighter c.places ≡ o → Idle c ⊎ Busy c
+      either : c.full ≡ false → (o : Option Entry) → lightest_open t.weights.lighter c.places ≡ o → Idle c ⊎ Busy c
       either unfilled None is =
           let it = none_steps t c unfilled (sym is) in
           inl (record { stopped = found unfilled None is; same = it.leaves; number = 11; refused = it.answers })
@@ -52,7 +52,7 @@ module _ (t : Task) where
           inr (record {
             stopped = found unfilled (Some s) is;
             more = ap (λ (x : Chart). x.finished) it.leaves ∙ arrive_all_count room t.weights.lighter (arrivals t s d.places) d;
-            answers = it.answers ∙ ap counted (sym it.leaves);
+            answers = it.answers ∙ ap count_unless_full (sym it.leaves);
           })
 
       go : (b : Bool) → c.full ≡ b → Idle c ⊎ Busy c
@@ -97,7 +97,7 @@ module _ (t : Task) where
       go : Idle c ⊎ Busy c → (stopped t d ≡ true) × ((d ≡ c) ⊎ (d.finished ≡ suc c.finished))
       go (inl idle) = (ap (stopped t) (next ∙ idle.same) ∙ idle.stopped, inl (next ∙ idle.same))
       go (inr busy) =
-          let full = counted_err (step t room c) n (answer ∙ busy.answers) in
+          let full = count_unless_full_err (step t room c) n (answer ∙ busy.answers) in
           (ap (stopped t) next ∙ full_stopped (step t room c) full, inr (ap (λ (x : Chart). x.finished) next ∙ busy.more))
 
   -- with so many steps still to take, the settled chart is the same
@@ -118,11 +118,11 @@ module _ (t : Task) where
     settles_on n answer = one_less (goes_on c d n next answer)
 
     pub settles_at : (n : ℕ) → Err n ≡ step_answer t room c → (d ≡ settled t room before) × (stopped t d ≡ true)
-    settles_at n answer = let (rests, how) = ends c d n next answer in (go rests how, rests)
+    settles_at n answer = let (halted, how) = ends c d n next answer in (go halted how, halted)
       where
         there : stopped t d ≡ true → Settles before d → d ≡ settled t room before
-        there rests it = sym (stay it.left d rests) ∙ it.gives
+        there halted it = sym (stay it.left d halted) ∙ it.gives
 
         go : stopped t d ≡ true → (d ≡ c) ⊎ (d.finished ≡ suc c.finished) → d ≡ settled t room before
-        go rests (inl same) = sym (stay so_far.left d rests) ∙ ap (steps t room so_far.left) same ∙ so_far.gives
-        go rests (inr more) = there rests (one_less more)
+        go halted (inl same) = sym (stay so_far.left d halted) ∙ ap (steps t room so_far.left) same ∙ so_far.gives
+        go halted (inr more) = there halted (one_less more)

@@ -3,8 +3,8 @@ use Rattle.std.proofs.Common.{◌≡◌, ℕ, zero, suc, ◌<◌, ◌≤◌, tru
 use Rattle.std.specs.List.{slice_get}
 use Rattle.std.proofs.lemmas.Bool.{and_parts}
 use Rattle.chart_model.specs.Plain.{Chart, is_open, done}
-use Rattle.chart_model.specs.Origins.{number_at, earlier, names_earlier, orderly}
-use Rattle.chart_model.specs.Reading.{named, followed, reading_at}
+use Rattle.chart_model.specs.Origins.{rank_at, finished_before, names_finished_before, orderly}
+use Rattle.chart_model.specs.Reading.{origin_nodes, followed, reading_at}
 use Rattle.chart_model.specs.declared.edge.Edge.{Edge}
 use Rattle.chart_model.specs.declared.edge.Edge.TheVariants.{Passive, Active}
 use Rattle.chart_model.specs.declared.origin.Origin.{Origin}
@@ -13,13 +13,13 @@ use Rattle.chart_model.specs.declared.node.Node.{Node}
 use Rattle.chart_model.specs.declared.place.Place.{Place}
 use Rattle.chart_model.proofs.Done.{done_within}
 use Rattle.chart_model.proofs.Members.{some_same}
-use Rattle.chart_model.proofs.Numbering.{earlier_parts, earlier_of, number_shut, names_before}
+use Rattle.chart_model.proofs.Numbering.{before_parts, before_of, rank_closed, names_before}
 use Rattle.chart_model.proofs.Readings.{followed_at}
 use Rattle.chart.specs.declared.table.Table.{Table}
-use Rattle.chart.specs.declared.reading.FinishedAt.{FinishedAt}
+use Rattle.chart.specs.declared.walk.FinishedAt.{FinishedAt}
 use Rattle.chart.specs.Charts.{held}
-use Rattle.chart.specs.Reading.{own, own_at, Wrote}
-use Rattle.chart.proofs.Overlay.{wrote_none, wrote_more}
+use Rattle.chart.specs.Walk.{own, own_at, Wrote}
+use Rattle.chart.proofs.Overwriting.{wrote_none, wrote_more}
 
 -- THE NODES BELOW
 
@@ -31,42 +31,42 @@ below f (First r c) = f c
 below f (Next a c) = f a ++ f c
 
 -- an edge's own node, and then those below it
-named_parts : (ps : List Place) (f : ℕ → List Node) (e : Edge) (o : Origin) → named ps f e o ≡ named ps (λ _. []) e o ++ below f o
-named_parts ps f (Passive x i j) (Word n) = refl
-named_parts ps f (Passive x i j) (Empty r) = refl
-named_parts ps f (Passive x i j) (First r c) = refl
-named_parts ps f (Passive x i j) (Next a c) = refl
-named_parts ps f (Active m k i j) (Word n) = refl
-named_parts ps f (Active m k i j) (Empty r) = refl
-named_parts ps f (Active m k i j) (First r c) = refl
-named_parts ps f (Active m k i j) (Next a c) = refl
+origin_nodes_parts : (ps : List Place) (f : ℕ → List Node) (e : Edge) (o : Origin) → origin_nodes ps f e o ≡ origin_nodes ps (λ _. []) e o ++ below f o
+origin_nodes_parts ps f (Passive x i j) (Word n) = refl
+origin_nodes_parts ps f (Passive x i j) (Empty r) = refl
+origin_nodes_parts ps f (Passive x i j) (First r c) = refl
+origin_nodes_parts ps f (Passive x i j) (Next a c) = refl
+origin_nodes_parts ps f (Active m k i j) (Word n) = refl
+origin_nodes_parts ps f (Active m k i j) (Empty r) = refl
+origin_nodes_parts ps f (Active m k i j) (First r c) = refl
+origin_nodes_parts ps f (Active m k i j) (Next a c) = refl
 
 followed_parts : (ps : List Place) (depth n : ℕ) (p : Place) → slice_get ps n ≡ Some p → followed (suc depth) ps n ≡ own ps p ++ below (followed depth ps) p.origin
-followed_parts ps depth n p there = followed_at ps n depth p there ∙ named_parts ps (followed depth ps) p.edge p.origin
+followed_parts ps depth n p there = followed_at ps n depth p there ∙ origin_nodes_parts ps (followed depth ps) p.edge p.origin
 
 module _ (c : Chart) (ordered : orderly c ≡ true) where
   abbrev ps : List Place
   ps = c.places
 
-  below_same : (f g : ℕ → List Node) (limit : ℕ) (o : Origin) → names_earlier ps limit o ≡ true → ((n : ℕ) → 0 < number_at ps n → number_at ps n < limit → f n ≡ g n) → below f o ≡ below g o
+  below_same : (f g : ℕ → List Node) (limit : ℕ) (o : Origin) → names_finished_before ps limit o ≡ true → ((n : ℕ) → 0 < rank_at ps n → rank_at ps n < limit → f n ≡ g n) → below f o ≡ below g o
   below_same f g limit (Word n) h same = refl
   below_same f g limit (Empty n) h same = refl
-  below_same f g limit (First r b) h same = let (low, high) = earlier_parts ps limit b h in same b low high
+  below_same f g limit (First r b) h same = let (low, high) = before_parts ps limit b h in same b low high
   below_same f g limit (Next a b) h same =
-      let both = and_parts (earlier ps limit a) (earlier ps limit b) h in
-      let (low_a, high_a) = earlier_parts ps limit a both.0 in
-      let (low_b, high_b) = earlier_parts ps limit b both.1 in
+      let both = and_parts (finished_before ps limit a) (finished_before ps limit b) h in
+      let (low_a, high_a) = before_parts ps limit a both.0 in
+      let (low_b, high_b) = before_parts ps limit b both.1 in
       ap (λ xs. xs ++ f b) (same a low_a high_a) ∙ ap (λ ys. g a ++ ys) (same b low_b high_b)
 
   -- one depth that is enough names the same nodes as another
-  followed_same : (k m n : ℕ) → 0 < number_at ps n → number_at ps n ≤ k → number_at ps n ≤ m → followed k ps n ≡ followed m ps n
+  followed_same : (k m n : ℕ) → 0 < rank_at ps n → rank_at ps n ≤ k → rank_at ps n ≤ m → followed k ps n ≡ followed m ps n
   followed_same zero m n some a b = absurd (omega arith)
   followed_same (suc k) zero n some a b = absurd (omega arith)
   followed_same (suc k) (suc m) n some a b =
-      let (p, there, shut) = number_shut ps n some in
+      let (p, there, closed) = rank_closed ps n some in
       followed_parts ps k n p there
       ∙ ap (λ xs. own ps p ++ xs)
-      (below_same (followed k ps) (followed m ps) (number_at ps n) p.origin (names_before c ordered n p there shut) (λ i low high. followed_same k m i low (omega arith) (omega arith)))
+      (below_same (followed k ps) (followed m ps) (rank_at ps n) p.origin (names_before c ordered n p there closed) (λ i low high. followed_same k m i low (omega arith) (omega arith)))
       ∙ sym (followed_parts ps m n p there)
 
 -- A WALK, FROM A FINISHED PLACE
@@ -84,21 +84,21 @@ module _ (s : FinishedAt) (p : Place) (here : slice_get (held s.table.now).place
   abbrev next : ℕ
   next = suc (held u).finished
 
-  number : (0 < number_at all n) × (number_at all n < next)
-  number = earlier_parts all next n s.finished
+  number : (0 < rank_at all n) × (rank_at all n < next)
+  number = before_parts all next n s.finished
 
-  before_here : names_earlier all (number_at all n) p.origin ≡ true
+  before_here : names_finished_before all (rank_at all n) p.origin ≡ true
   before_here =
-      let (q, there, shut) = number_shut all n number.0 in
+      let (q, there, closed) = rank_closed all n number.0 in
       let same : q ≡ p = some_same (sym there ∙ here) in
-      names_before (held u) u.orderly n p here (subst (λ (r : Place). is_open r.finished ≡ false) same shut)
+      names_before (held u) u.orderly n p here (subst (λ (r : Place). is_open r.rank ≡ false) same closed)
 
   -- what was finished before this place was finished
-  ended : (k : ℕ) → earlier all (number_at all n) k ≡ true → earlier all next k ≡ true
-  ended k h =
-      let (low, high) = earlier_parts all (number_at all n) k h in
+  before_next : (k : ℕ) → finished_before all (rank_at all n) k ≡ true → finished_before all next k ≡ true
+  before_next k h =
+      let (low, high) = before_parts all (rank_at all n) k h in
       let BelowNext = number.1 in
-      earlier_of all next k low (omega arith)
+      before_of all next k low (omega arith)
 
   own_here : own_at all n ≡ own all p
   own_here = ap (λ (o : Option Place). elim o as (λ _. List Node) [ None ↦ [] | Some q ↦ own all q ]) here
@@ -114,18 +114,18 @@ module _ (s : FinishedAt) (p : Place) (here : slice_get (held s.table.now).place
 
   -- a place that the origin names was finished, and before this one
   pub record Child (k : ℕ) : Type 0 where
-    pub shut : earlier all next k ≡ true
-    pub sooner : number_at all k < number_at all n
+    pub closed : finished_before all next k ≡ true
+    pub sooner : rank_at all k < rank_at all n
 
-  child : (k : ℕ) → earlier all (number_at all n) k ≡ true → Child k
-  child k h = record { shut = ended k h; sooner = (earlier_parts all (number_at all n) k h).1 }
+  child : (k : ℕ) → finished_before all (rank_at all n) k ≡ true → Child k
+  child k h = record { closed = before_next k h; sooner = (before_parts all (rank_at all n) k h).1 }
 
-  pub first_named : (r k : ℕ) → p.origin ≡ First r k → Child k
-  first_named r k e = child k (rw e at before_here)
+  pub first_child : (r k : ℕ) → p.origin ≡ First r k → Child k
+  first_child r k e = child k (rw e at before_here)
 
-  pub next_named : (a k : ℕ) → p.origin ≡ Next a k → Child a × Child k
-  next_named a k e =
-      let both = and_parts (earlier all (number_at all n) a) (earlier all (number_at all n) k) (rw e at before_here) in
+  pub next_children : (a k : ℕ) → p.origin ≡ Next a k → Child a × Child k
+  next_children a k e =
+      let both = and_parts (finished_before all (rank_at all n) a) (finished_before all (rank_at all n) k) (rw e at before_here) in
       (child a both.0, child k both.1)
 
   module _ (before middle : List Node) (filled : ℕ) where

@@ -6,13 +6,13 @@ use Rattle.std.specs.Option.{option_map, option_or}
 use Rattle.weighing.specs.Laws.{Weights}
 use Rattle.grammar.specs.Rules.{Rule}
 use Rattle.chart_model.specs.Task.{Task}
-use Rattle.chart_model.specs.Plain.{Chart, arrive_all, gathered, reached, word_brings, empty_brings, nodes_bring, rule_brings, takes, place_brings, arrivals}
+use Rattle.chart_model.specs.Plain.{Chart, arrive_all, gathered, rule_edge, word_brings, empty_brings, nodes_bring, rule_brings, takes, place_brings, arrivals}
 use Rattle.chart_model.specs.declared.edge.Edge.{Edge}
 use Rattle.chart_model.specs.declared.place.Arrival.{Arrival}
 use Rattle.chart_model.specs.declared.place.Place.{Place}
-use Rattle.chart_model.specs.declared.place.Standing.{Standing}
+use Rattle.chart_model.specs.declared.place.Entry.{Entry}
 use Rattle.chart.specs.declared.table.Table.{Table}
-use Rattle.chart.specs.View.{room, NamesEarlier}
+use Rattle.chart.specs.View.{room, NamesFinished}
 use Rattle.chart.specs.Charts.{held}
 
 -- BY ONE NUMBER
@@ -30,23 +30,23 @@ abbrev pub empty_rule : Task → ℕ → ℕ → Option Arrival
 empty_rule t i n = brought_by (empty_brings t.weights i) t.rules n
 
 -- the edge of rule n over the span [i, j], the dot after k symbols
-abbrev pub reached_by : List Rule → ℕ → ℕ → ℕ → ℕ → Option Edge
-reached_by rules n k i j = option_map (λ r. reached n r k i j) (slice_get rules n)
+abbrev pub rule_edge_of : List Rule → ℕ → ℕ → ℕ → ℕ → Option Edge
+rule_edge_of rules n k i j = option_map (λ r. rule_edge n r k i j) (slice_get rules n)
 
 -- the start of rule n with a finished edge
-abbrev pub begun_rule : Task → Standing → ℕ → Option Arrival
+abbrev pub begun_rule : Task → Entry → ℕ → Option Arrival
 begun_rule t s n = brought_by (rule_brings t.weights s) t.rules n
 
 -- the fundamental rule: p active, q passive
-abbrev pub joined : Task → Standing → Standing → Option Arrival
+abbrev pub joined : Task → Entry → Entry → Option Arrival
 joined t p q = takes t.rules t.weights p q
 
 -- either of the two active
-abbrev pub met : Task → Standing → Standing → Option Arrival
+abbrev pub met : Task → Entry → Entry → Option Arrival
 met t p q = option_or (joined t p q) (joined t q p)
 
 -- the same with the edge at place n, if that is finished
-abbrev pub met_at : Task → Standing → List Place → ℕ → Option Arrival
+abbrev pub met_at : Task → Entry → List Place → ℕ → Option Arrival
 met_at t s ps n = brought_by (place_brings t.rules t.weights s) ps n
 
 -- AT A TABLE
@@ -67,7 +67,7 @@ abbrev pub NodesArrived : Task → Table → Table → Type 0
 NodesArrived t before after = Arrived t.weights before (nodes_bring t.weights t.rules 0 (suc t.last)) after
 
 -- the conclusions with a newly finished premise
-abbrev pub FollowingArrived : Task → Standing → Table → Table → Type 0
+abbrev pub FollowingArrived : Task → Entry → Table → Table → Type 0
 FollowingArrived t s before after = Arrived t.weights before (arrivals t s (held before).places) after
 
 -- BY ALL NUMBERS
@@ -81,16 +81,16 @@ abbrev pub Later : Weights → Chart → Chart → Type 0
 Later ws c d = (as' : List Arrival) × (d ≡ arrive_all room ws.lighter c as')
 
 -- the premises of an arrival, if there is one, are finished
-abbrev pub NamesFinished : Chart → Option Arrival → Type 0
-NamesFinished c r = IfSome r (NamesEarlier c)
+abbrev pub BringsFinished : Chart → Option Arrival → Type 0
+BringsFinished c r = IfSome r (NamesFinished c)
 
 -- of each arrival that a number below a count may bring, at the table as it is by then
 abbrev pub AnyBrought : (Bor Table → ℕ → Option Arrival → Type 0) → Weights → ℕ → Table → (Chart → ℕ → Option Arrival → Type 0) → Type 0
 AnyBrought brings ws count before Says =
     (t : Bor Table) (n : ℕ) (r : Option Arrival) → n < count → Later ws (held before) (held t.now) → brings t n r → Says (held t.now) n r
 
-abbrev pub AllNamed : (Bor Table → ℕ → Option Arrival → Type 0) → Weights → ℕ → Table → Type 0
-AllNamed brings ws count before = AnyBrought brings ws count before (λ c n r. NamesFinished c r)
+abbrev pub AllBringFinished : (Bor Table → ℕ → Option Arrival → Type 0) → Weights → ℕ → Table → Type 0
+AllBringFinished brings ws count before = AnyBrought brings ws count before (λ c n r. BringsFinished c r)
 
 -- where a function says what each number brings, just that has arrived
 abbrev pub Brought : (Bor Table → ℕ → Option Arrival → Type 0) → Weights → ℕ → Table → Table → Type 0

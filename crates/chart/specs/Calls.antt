@@ -14,7 +14,7 @@ use Rattle.chart.specs.declared.refusal.SettledRefusal.{SettledRefusal}
 use Rattle.chart.specs.declared.call.Call.{Call}
 use Rattle.chart.specs.declared.call.Call.TheVariants.{Step, Question as Asks}
 use Rattle.chart.specs.declared.call.Question.{Question}
-use Rattle.chart.specs.Refusals.{step_number, question_number, settled_number, told}
+use Rattle.chart.specs.Refusals.{step_number, question_number, settled_number, by_number}
 use Rattle.chart.specs.View.{room}
 
 -- a question to a settled chart
@@ -43,11 +43,11 @@ after_calls t c calls = fold (after_call t) c calls
 -- the question, now with its answer, whose refusal has the right number
 abbrev pub Answered : {E : Type 0} → (E → ℕ) → (Phrase → Result ℕ ℕ) → Question E → Question E → Type 0
 Answered {E = E} number answer q asked =
-    (r : Result ℕ E) × (asked ≡ record { phrase = q.phrase; answer = Some r }) × (told number r ≡ answer q.phrase)
+    (r : Result ℕ E) × (asked ≡ record { phrase = q.phrase; answer = Some r }) × (by_number number r ≡ answer q.phrase)
 
 -- the call, now with the answer of this chart
 abbrev pub Made : Task → Chart → Call → Call → Type 0
-Made t c (Step a) made = (r : Result ℕ StepRefusal) × (made ≡ Step (Some r)) × (told step_number r ≡ step_answer t room c)
+Made t c (Step a) made = (r : Result ℕ StepRefusal) × (made ≡ Step (Some r)) × (by_number step_number r ≡ step_answer t room c)
 Made t c (Asks q) made = (asked : Question QuestionRefusal) × (made ≡ Asks asked) × Answered question_number (working_answer t c) q asked
 
 -- all calls in turn, the first at this chart
@@ -77,16 +77,16 @@ Lent So (Some before) _ = ⊥
 -- WHAT THE ANSWERS SAY OF DERIVATIONS
 
 -- an answered weight is attained, and the least
-abbrev pub TellsLightest : Task → Call → Type 0
-TellsLightest t (Step a) = ⊤
-TellsLightest t (Asks q) = (w : ℕ) → q.answer ≡ Some (Ok w) → Weighs t (edge_of q.phrase) w × NoneLighter t (edge_of q.phrase) w
+abbrev pub AnswersLightest : Task → Call → Type 0
+AnswersLightest t (Step a) = ⊤
+AnswersLightest t (Asks q) = (w : ℕ) → q.answer ≡ Some (Ok w) → Weighs t (edge_of q.phrase) w × NoneLighter t (edge_of q.phrase) w
 
-abbrev pub LightestTold : Task → List Call → Type 0
-LightestTold t calls = AllByRecursion (TellsLightest t) calls
+abbrev pub AllLightest : Task → List Call → Type 0
+AllLightest t calls = AllByRecursion (AnswersLightest t) calls
 
 -- an answer of the settled chart means what `SettledSays` defines
-abbrev pub TellsTruth : Task → Chart → FinalQuestion → Type 0
-TellsTruth t c q = (r : Result ℕ SettledRefusal) → q.answer ≡ Some r → SettledSays t room c q.phrase (told settled_number r)
+abbrev pub AnswersTruly : Task → Chart → FinalQuestion → Type 0
+AnswersTruly t c q = (r : Result ℕ SettledRefusal) → q.answer ≡ Some r → SettledSays t room c q.phrase (by_number settled_number r)
 
-abbrev pub TruthTold : Task → Chart → List FinalQuestion → Type 0
-TruthTold t c questions = AllByRecursion (TellsTruth t c) questions
+abbrev pub AllTrue : Task → Chart → List FinalQuestion → Type 0
+AllTrue t c questions = AllByRecursion (AnswersTruly t c) questions

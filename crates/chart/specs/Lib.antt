@@ -9,4 +9,4 @@ pub mod Refusals
 pub mod Finding
 pub mod Saying
 pub mod Calls
-pub mod Reading
+pub mod Walk

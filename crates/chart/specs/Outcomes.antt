@@ -9,8 +9,8 @@ use Rattle.chart.specs.declared.outcome.Outcome.{Outcome}
 use Rattle.chart.specs.Working as working
 
 module _ {G L W : Type 0} {g : GrammarGhosts G} {l : LatticeGhosts L} {w : WeighingGhosts W} where
-  abbrev pub opened_over : Outcome G L W g l w → Setting G L W g l w
-  opened_over c = working.opened_over c.chart
+  abbrev pub setting_of : Outcome G L W g l w → Setting G L W g l w
+  setting_of c = working.setting_of c.chart
 
   abbrev pub task : Outcome G L W g l w → Task
   task c = working.task c.chart

@@ -15,11 +15,11 @@ step_number Step.Full = 10
 step_number Step.NothingOpen = 11
 
 abbrev pub question_number : QuestionRefusal → ℕ
-question_number Question.NoStretch = 7
+question_number Question.NoSpan = 7
 question_number Question.NotFinished = 8
 
 abbrev pub settled_number : SettledRefusal → ℕ
-settled_number Settled.NoStretch = 7
+settled_number Settled.NoSpan = 7
 settled_number Settled.NoDerivation = 9
 settled_number Settled.Full = 10
 
@@ -32,5 +32,5 @@ abbrev pub as_reading : SettledRefusal → ReadingRefusal
 as_reading refusal = Reading.Unanswered refusal
 
 -- an answer with the number of its refusal
-abbrev pub told : {A E : Type 0} → (E → ℕ) → Result A E → Result A ℕ
-told number r = result_map_both (λ a. a) number r
+abbrev pub by_number : {A E : Type 0} → (E → ℕ) → Result A E → Result A ℕ
+by_number number r = result_map_both (λ a. a) number r

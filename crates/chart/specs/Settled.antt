@@ -9,8 +9,8 @@ use Rattle.chart.specs.declared.settled.SettledChart.{SettledChart}
 use Rattle.chart.specs.Working as working
 
 module _ {G L W : Type 0} {g : GrammarGhosts G} {l : LatticeGhosts L} {w : WeighingGhosts W} where
-  abbrev pub opened_over : SettledChart G L W g l w → Setting G L W g l w
-  opened_over c = working.opened_over c.working
+  abbrev pub setting_of : SettledChart G L W g l w → Setting G L W g l w
+  setting_of c = working.setting_of c.working
 
   abbrev pub task : SettledChart G L W g l w → Task
   task c = working.task c.working

@@ -10,8 +10,8 @@ use Rattle.chart.specs.Charts.{held}
 use Rattle.chart.specs.Settings as settings
 
 module _ {G L W : Type 0} {g : GrammarGhosts G} {l : LatticeGhosts L} {w : WeighingGhosts W} where
-  abbrev pub opened_over : WorkingChart G L W g l w → Setting G L W g l w
-  opened_over c = c.setting
+  abbrev pub setting_of : WorkingChart G L W g l w → Setting G L W g l w
+  setting_of c = c.setting
 
   abbrev pub task : WorkingChart G L W g l w → Task
   task c = settings.task c.setting

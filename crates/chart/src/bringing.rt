@@ -2,7 +2,7 @@
 ghost use Rattle.std.specs.Prelude.{◌<◌, ℕ};
 ghost use Rattle.std.specs.Borrow.{Bor};
 ghost use Rattle.chart.specs.declared.table.Table.{Table};
-ghost use Rattle.chart.specs.Bringing.{AllNamed, Brought};
+ghost use Rattle.chart.specs.Bringing.{AllBringFinished, Brought};
 
 use crate::setting::Setting;
 use crate::table::Table;
@@ -12,7 +12,7 @@ use lattice::Lattice;
 use weighing::Weighing;
 
 impl<G: Grammar, L: Lattice, W: Weighing> Setting<G, L, W> {
-    // What each number below a count brings arrives, in order; `brings` sees the table as it is by then.
+    // For each number below a count, in order, the arrival that `brings` gives for the table as it is by then.
     pub(crate) fn bring_each<F: Fn(&Table, usize) -> Option<Arrival>>(
         &self,
         table: &mut Table,
@@ -20,7 +20,7 @@ impl<G: Grammar, L: Lattice, W: Weighing> Setting<G, L, W> {
         brings: F,
     )
         requires callable { (t : Bor Table) (n : ℕ) → n < count → F.pre brings t n }
-        requires named { AllNamed (F.post brings) (W.weights self.now.weighing) count table.old }
+        requires finished { AllBringFinished (F.post brings) (W.weights self.now.weighing) count table.old }
         ensures { Brought (F.post brings) (W.weights self.now.weighing) count table.old table.new }
     {
         for n in 0..count {

@@ -13,11 +13,11 @@ pub struct Question<E> {
 /// A call on a working chart; its answer is none until the call is made.
 #[derive(Clone, Copy, PartialEq, Eq, Debug)]
 pub enum Call {
-    /// A step; answers how many edges are finished after it, or 10 or 11.
+    /// A step: the count of finished edges, or refusal 10 or 11.
     Step {
         answer: Option<Result<u16, StepRefusal>>,
     },
-    /// A question; answers a weight, or 7 or 8.
+    /// A question: a weight, or refusal 7 or 8.
     Question(Question<QuestionRefusal>),
 }
 

@@ -12,7 +12,7 @@ pub(crate) struct Listing<'a> {
 }
 
 impl<'a> Listing<'a> {
-    ghost use Rattle.chart.specs.Reading.{Lists, SameList};
+    ghost use Rattle.chart.specs.Walk.{Lists, SameList};
 
     // Writes one node more, where there is room.
     pub(crate) fn push(&mut self, node: Node) -> Result<(), NoRoom>

@@ -1,20 +1,20 @@
 // The inferences from finished edges: the bottom-up start of a rule, and the fundamental rule.
 ghost use Rattle.std.specs.Prelude.{◌≡◌};
-ghost use Rattle.chart.specs.Bringing.{begun_rule, joined, met, reached_by};
+ghost use Rattle.chart.specs.Bringing.{begun_rule, joined, met, rule_edge_of};
 ghost use Rattle.chart.specs.Settings.{task};
 
 use crate::setting::Setting;
 use chart_model::edge::Edge;
 use chart_model::origin::Origin;
-use chart_model::place::{Arrival, Standing};
+use chart_model::place::{Arrival, Entry};
 use grammar::Grammar;
 use lattice::Lattice;
 use weighing::Weighing;
 
 impl<G: Grammar, L: Lattice, W: Weighing> Setting<G, L, W> {
-    // The edge of a rule over a span, its first `seen` symbols complete: passive, of its left, if that is all of them.
-    fn reached(&self, rule: u8, seen: u8, from: u8, to: u8) -> Option<Edge>
-        ensures { result ≡ reached_by (G.rules self.now.grammar) rule seen from to }
+    // The edge of a rule over a span, the dot after `seen` symbols: passive, of its left, if that is all of them.
+    fn rule_edge(&self, rule: u8, seen: u8, from: u8, to: u8) -> Option<Edge>
+        ensures { result ≡ rule_edge_of (G.rules self.now.grammar) rule seen from to }
     {
         let length = self.grammar.length(usize::from(rule))?;
         if usize::from(seen) == length {
@@ -30,7 +30,7 @@ impl<G: Grammar, L: Lattice, W: Weighing> Setting<G, L, W> {
     }
 
     // The start of a rule whose first right symbol is that of a finished passive edge.
-    pub(crate) fn begin(&self, rule: u8, child: Standing) -> Option<Arrival>
+    pub(crate) fn begin(&self, rule: u8, child: Entry) -> Option<Arrival>
         ensures { result ≡ begun_rule (task self.now) child rule }
     {
         let Edge::Passive {
@@ -47,7 +47,7 @@ impl<G: Grammar, L: Lattice, W: Weighing> Setting<G, L, W> {
         if symbol != found {
             return None;
         }
-        let edge = self.reached(rule, 1, from, to)?;
+        let edge = self.rule_edge(rule, 1, from, to)?;
         let mark = self.grammar.mark(usize::from(rule))?;
         let weight = self.weighing.join(self.weighing.weigh(mark), child.weight);
         let origin = Origin::First {
@@ -57,8 +57,8 @@ impl<G: Grammar, L: Lattice, W: Weighing> Setting<G, L, W> {
         Some(Arrival::new(edge, weight, origin))
     }
 
-    // The fundamental rule: an active edge takes a passive edge that starts where it ends, of the symbol it wants next.
-    fn take(&self, active: Standing, child: Standing) -> Option<Arrival>
+    // The fundamental rule: the dot moves over a passive neighbour.
+    fn take(&self, active: Entry, child: Entry) -> Option<Arrival>
         ensures { result ≡ joined (task self.now) active child }
     {
         let Edge::Active {
@@ -87,7 +87,7 @@ impl<G: Grammar, L: Lattice, W: Weighing> Setting<G, L, W> {
         if symbol != found {
             return None;
         }
-        let edge = self.reached(rule, seen + 1, from, to)?;
+        let edge = self.rule_edge(rule, seen + 1, from, to)?;
         let weight = self.weighing.join(active.weight, child.weight);
         let origin = Origin::Next {
             active: active.at,
@@ -97,7 +97,7 @@ impl<G: Grammar, L: Lattice, W: Weighing> Setting<G, L, W> {
     }
 
     // The same for two finished edges, either of which may be the active one.
-    pub(crate) fn meet(&self, one: Standing, other: Standing) -> Option<Arrival>
+    pub(crate) fn meet(&self, one: Entry, other: Entry) -> Option<Arrival>
         ensures { result ≡ met (task self.now) one other }
     {
         self.take(one, other).or(self.take(other, one))

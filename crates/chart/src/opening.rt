@@ -14,7 +14,7 @@ use lattice::Lattice;
 use weighing::Weighing;
 
 impl<G: Grammar, L: Lattice, W: Weighing> Setting<G, L, W> {
-    // The passive edge of a word.
+    // The axiom of a word; none past the last.
     fn word(&self, n: u8) -> Option<Arrival>
         ensures { result ≡ heard_word (task self.now) n }
     {
@@ -28,7 +28,7 @@ impl<G: Grammar, L: Lattice, W: Weighing> Setting<G, L, W> {
         Some(Arrival::new(edge, weight, Origin::Word(n)))
     }
 
-    // The passive edge of a rule without right symbols, at a node.
+    // The axiom of an empty rule at a node; none of a rule with right symbols.
     fn empty(&self, node: u8, rule: u8) -> Option<Arrival>
         ensures { result ≡ empty_rule (task self.now) node rule }
     {

@@ -16,7 +16,7 @@ pub struct Outcome<G: Grammar, L: Lattice, W: Weighing> {
 }
 
 impl<G: Grammar, L: Lattice, W: Weighing> Outcome<G, L, W> {
-    ghost use Rattle.chart.specs.Outcomes.{opened_over, chart};
+    ghost use Rattle.chart.specs.Outcomes.{setting_of, chart};
 
     /// The weight of an edge, passive or active; none if it is not finished.
     pub fn weight(&self, edge: Edge) -> Option<u64>
@@ -41,7 +41,7 @@ impl<G: Grammar, L: Lattice, W: Weighing> Outcome<G, L, W> {
 
     /// Gives back the grammar, the lattice and the weighing.
     pub fn into_setting(self) -> Setting<G, L, W>
-        ensures { result ≡ opened_over self }
+        ensures { result ≡ setting_of self }
     {
         let WorkingChart { setting, .. } = self.chart;
         setting

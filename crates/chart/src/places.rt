@@ -6,7 +6,7 @@ ghost use Rattle.chart_model.specs.Plain.{blank, lighter_of, finishing, place_of
 ghost use Rattle.chart.specs.View.{room, view, put, improve, lightest_in, arrived};
 
 use chart_model::edge::Edge;
-use chart_model::place::{Arrival, Place, Standing};
+use chart_model::place::{Arrival, Entry, Place};
 use weighing::Weighing;
 
 // The capacity of a chart, in edges.
@@ -23,7 +23,7 @@ pub(crate) struct Places {
 }
 
 // The lighter of two open edges, the former in a tie.
-fn lighter_of<W: Weighing>(weighing: &W, best: Option<Standing>, edge: Standing) -> Option<Standing>
+fn lighter_of<W: Weighing>(weighing: &W, best: Option<Entry>, edge: Entry) -> Option<Entry>
     ensures { result ≡ lighter_of (W.weights weighing.now).lighter best edge }
 {
     match best {
@@ -76,7 +76,7 @@ impl Places {
     }
 
     // The head of the agenda: the lightest open edge; ties go to the lower number.
-    pub(crate) fn lightest<W: Weighing>(&self, weighing: &W) -> Option<Standing>
+    pub(crate) fn lightest<W: Weighing>(&self, weighing: &W) -> Option<Entry>
         requires { self.now.taken ≤ room }
         ensures { result ≡ lightest_in (W.weights weighing.now) (view self.now) }
     {
@@ -84,14 +84,14 @@ impl Places {
         for (at, place) in self.taken_places().iter().enumerate() {
             if place.is_open() {
                 // The number of a place fits 16 bits.
-                best = lighter_of(weighing, best, place.seen(at as u16));
+                best = lighter_of(weighing, best, place.entry(at as u16));
             }
         }
         best
     }
 
     // Whether all slots are taken.
-    fn is_taken(&self) -> bool
+    fn is_used_up(&self) -> bool
         requires { self.now.taken ≤ room }
         ensures taken { result ≡ nat_eq self.now.taken room }
         ensures places { length (view self.now).places ≡ self.now.taken }
@@ -146,7 +146,7 @@ impl Places {
                 self.improve(at, arrival)
             }
             Some(_) => {}
-            None if self.is_taken() => self.full = true,
+            None if self.is_used_up() => self.full = true,
             None => self.put(arrival),
         }
     }

@@ -1,7 +1,7 @@
 // From opening to a reading in one call.
 ghost use Rattle.std.specs.Prelude.{◌≡◌, length};
 ghost use Rattle.chart.specs.Settings.{task};
-ghost use Rattle.chart.specs.Refusals.{reading_number, told};
+ghost use Rattle.chart.specs.Refusals.{reading_number, by_number};
 ghost use Rattle.chart.specs.Saying.{read_answer, read_list, ReadSays};
 
 use crate::refusal::ReadingRefusal;
@@ -22,17 +22,17 @@ pub struct Listed {
     pub nodes: usize,
 }
 
-/// Opens and settles a chart, and writes the nodes of a phrase's lightest derivation into the caller's list, in pre-order.
-/// Refused with 7, 9 or 10, the list untouched, and with 12 if it is too short for all nodes and holds the first of them.
+/// Opens and settles a chart, and writes the pre-order of a phrase's lightest derivation into the caller's list. Refused
+/// with 7, 9 or 10, the list untouched, and with 12 for more nodes than room, the list then a prefix of the pre-order.
 pub fn read<G: Grammar + Drop, L: Lattice + Drop, W: Weighing + Drop>(
     setting: Setting<G, L, W>,
     phrase: Phrase,
     nodes: &mut [Node],
 ) -> Result<Listed, ReadingRefusal>
-    ensures answer { told reading_number result
+    ensures answer { by_number reading_number result
         ≡ read_answer (task setting) phrase (length nodes.old) }
     ensures list { nodes.new ≡ read_list (task setting) phrase nodes.old }
-    ensures says { ReadSays (task setting) phrase nodes.old nodes.new (told reading_number result) }
+    ensures says { ReadSays (task setting) phrase nodes.old nodes.new (by_number reading_number result) }
 {
     let chart = WorkingChart::open(setting).settle();
     let weight = chart.question(phrase)?;

@@ -10,9 +10,9 @@ use records::numbered::Numbered;
 /// Why a step is refused.
 #[derive(Clone, Copy, PartialEq, Eq, Debug)]
 pub enum StepRefusal {
-    /// 10: the chart is full. If the step made it so, it has finished its edge.
+    /// 10: the chart is full, before the step or by it; in the second case the popped edge stays finished.
     Full = 10, // before the step, or by it
-    /// 11: no edge is open, and the chart is not full; nothing has changed.
+    /// 11: the agenda is empty, and the chart not full; nothing has changed.
     NothingOpen = 11,
 }
 
@@ -20,7 +20,7 @@ pub enum StepRefusal {
 #[derive(Clone, Copy, PartialEq, Eq, Debug)]
 pub enum QuestionRefusal {
     /// 7: the lattice has no such span.
-    NoStretch = 7,
+    NoSpan = 7,
     /// 8: the edge is not finished.
     NotFinished = 8,
 }
@@ -29,7 +29,7 @@ pub enum QuestionRefusal {
 #[derive(Clone, Copy, PartialEq, Eq, Debug)]
 pub enum SettledRefusal {
     /// 7: the lattice has no such span.
-    NoStretch = 7,
+    NoSpan = 7,
     /// 9: the edge has no derivation.
     NoDerivation = 9,
     /// 10: more edges have derivations than the chart has places, and this edge is not among its finished ones.
@@ -41,7 +41,7 @@ pub enum SettledRefusal {
 pub enum ReadingRefusal {
     /// 7, 9 or 10, as the question about its phrase is; the list is untouched.
     Unanswered(SettledRefusal),
-    /// 12: the list is too short, and holds the first nodes.
+    /// 12: more nodes than room; the list is a prefix of the pre-order.
     TooShort,
 }
 

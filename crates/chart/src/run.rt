@@ -1,13 +1,13 @@
 // Runs: a new chart, a list of calls on it, and what they leave.
 ghost use Rattle.std.specs.Prelude.{◌≡◌, IsSome, is_some};
 ghost use Rattle.chart_model.specs.Plain.{opened};
-ghost use Rattle.chart_model.specs.Stands.{Stands, Settled};
-ghost use Rattle.chart.specs.Calls.{after_call, after_calls, TellsLightest, Made, AllMade};
-ghost use Rattle.chart.specs.Calls.{AllAsked, run_chart, Lent, LightestTold, TruthTold};
+ghost use Rattle.chart_model.specs.Stands.{Stands, Complete};
+ghost use Rattle.chart.specs.Calls.{after_call, after_calls, AnswersLightest, Made, AllMade};
+ghost use Rattle.chart.specs.Calls.{AllAsked, run_chart, Lent, AllLightest, AllTrue};
 ghost use Rattle.chart.specs.Outcomes as outcome;
 ghost use Rattle.chart.specs.Settled as final;
 ghost use Rattle.chart.specs.View.{room};
-ghost use Rattle.chart.specs.Working.{opened_over, task, chart as plain};
+ghost use Rattle.chart.specs.Working.{setting_of, task, chart as plain};
 
 use crate::call::{Call, FinalQuestion};
 use crate::outcome::Outcome;
@@ -21,9 +21,9 @@ use weighing::Weighing;
 // Makes a call, and notes its answer.
 fn make<G: Grammar, L: Lattice, W: Weighing>(chart: &mut WorkingChart<G, L, W>, call: &mut Call)
     ensures made { Made (task chart.old) (plain chart.old) call.old call.new }
-    ensures left { plain chart.new ≡ after_call (task chart.old) (plain chart.old) call.old }
-    ensures lightest { TellsLightest (task chart.old) call.new }
-    ensures setting { opened_over chart.new ≡ opened_over chart.old }
+    ensures leaves { plain chart.new ≡ after_call (task chart.old) (plain chart.old) call.old }
+    ensures lightest { AnswersLightest (task chart.old) call.new }
+    ensures setting { setting_of chart.new ≡ setting_of chart.old }
 {
     match call {
         Call::Step { answer } => *answer = Some(chart.step()),
@@ -37,9 +37,9 @@ fn make_all<G: Grammar, L: Lattice, W: Weighing>(
     calls: &mut [Call],
 )
     ensures made { AllMade (task chart.old) (plain chart.old) calls.old calls.new }
-    ensures left { plain chart.new ≡ after_calls (task chart.old) (plain chart.old) calls.old }
-    ensures lightest { LightestTold (task chart.old) calls.new }
-    ensures setting { opened_over chart.new ≡ opened_over chart.old }
+    ensures leaves { plain chart.new ≡ after_calls (task chart.old) (plain chart.old) calls.old }
+    ensures lightest { AllLightest (task chart.old) calls.new }
+    ensures setting { setting_of chart.new ≡ setting_of chart.old }
 {
     for call in calls.iter_mut() {
         make(chart, call);
@@ -53,7 +53,7 @@ fn ask_all<G: Grammar, L: Lattice, W: Weighing>(
 )
     ensures asked { AllAsked (final.task chart.now) (final.chart chart.now)
         questions.old questions.new }
-    ensures truth { TruthTold (final.task chart.now) (final.chart chart.now) questions.new }
+    ensures truth { AllTrue (final.task chart.now) (final.chart chart.now) questions.new }
 {
     for question in questions.iter_mut() {
         question.answer = Some(chart.question(question.phrase));
@@ -61,14 +61,14 @@ fn ask_all<G: Grammar, L: Lattice, W: Weighing>(
 }
 
 // Opens a chart, and makes calls on it.
-fn begin<G: Grammar, L: Lattice, W: Weighing>(
+fn open_and_make<G: Grammar, L: Lattice, W: Weighing>(
     setting: Setting<G, L, W>,
     calls: &mut [Call],
 ) -> WorkingChart<G, L, W>
-    ensures setting { opened_over result ≡ setting }
+    ensures setting { setting_of result ≡ setting }
     ensures made { AllMade (task result) (opened (task result) room) calls.old calls.new }
-    ensures left { plain result ≡ after_calls (task result) (opened (task result) room) calls.old }
-    ensures lightest { LightestTold (task result) calls.new }
+    ensures leaves { plain result ≡ after_calls (task result) (opened (task result) room) calls.old }
+    ensures lightest { AllLightest (task result) calls.new }
     ensures stands { Stands (task result) (plain result) }
 {
     let mut chart = WorkingChart::open(setting);
@@ -83,21 +83,21 @@ pub fn run<G: Grammar, L: Lattice, W: Weighing>(
     calls: &mut [Call],
     questions: Option<&mut [FinalQuestion]>,
 ) -> Outcome<G, L, W>
-    ensures setting { outcome.opened_over result ≡ setting }
+    ensures setting { outcome.setting_of result ≡ setting }
     ensures stands { Stands (outcome.task result) (outcome.chart result) }
-    ensures settled { IsSome questions.entry →
-        Settled (outcome.task result) room (outcome.chart result) }
-    ensures lightest { LightestTold (outcome.task result) calls.new }
-    ensures truth { Lent (λ _ after. TruthTold (outcome.task result) (outcome.chart result) after)
+    ensures complete { IsSome questions.entry →
+        Complete (outcome.task result) room (outcome.chart result) }
+    ensures lightest { AllLightest (outcome.task result) calls.new }
+    ensures truth { Lent (λ _ after. AllTrue (outcome.task result) (outcome.chart result) after)
         questions.entry questions.exit }
-    ensures called { outcome.chart result
+    ensures leaves { outcome.chart result
         ≡ run_chart (outcome.task result) calls.old (is_some questions.entry) }
     ensures made { AllMade (outcome.task result) (opened (outcome.task result) room)
         calls.old calls.new }
     ensures asked { Lent (AllAsked (outcome.task result) (outcome.chart result))
         questions.entry questions.exit }
 {
-    let chart = begin(setting, calls);
+    let chart = open_and_make(setting, calls);
     let Some(questions) = questions else {
         return Outcome { chart };
     };

@@ -16,7 +16,7 @@ pub struct Setting<G: Grammar, L: Lattice, W: Weighing> {
     pub lattice: L,
     /// What marks weigh.
     pub weighing: W,
-    // Names what the three mean, for definitions over the type.
+    // The three are sound together; definitions over the type name what they mean by this field.
     pub ghost sound: { ∥ Sound (task_of G.Grammar L.Lattice W.Weighing
         grammar lattice weighing) ∥₁ },
 }

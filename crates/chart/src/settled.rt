@@ -3,17 +3,17 @@ ghost use Rattle.std.specs.Prelude.{◌≡◌, true, length, IfOk};
 ghost use Rattle.chart_model.specs.Plain.{stopped, missing_number, settled_answer};
 ghost use Rattle.chart_model.specs.Reading.{reading_answer, reading_list};
 ghost use Rattle.chart_model.specs.Saying.{SettledSays, ReadingSays};
-ghost use Rattle.chart.specs.Refusals.{settled_number, reading_number, told};
-ghost use Rattle.chart.specs.View.{room, Named};
+ghost use Rattle.chart.specs.Refusals.{settled_number, reading_number, by_number};
+ghost use Rattle.chart.specs.View.{room, IsFinished};
 ghost use Rattle.chart.specs.Working as inner;
 
 use crate::listing::Listing;
-use crate::reading::FinishedAt;
 use crate::refusal::{ReadingRefusal, SettledRefusal};
+use crate::walk::FinishedAt;
 use crate::working::WorkingChart;
 use chart_model::node::Node;
 use chart_model::phrase::Phrase;
-use chart_model::place::Standing;
+use chart_model::place::Entry;
 use grammar::Grammar;
 use lattice::Lattice;
 use weighing::Weighing;
@@ -41,35 +41,38 @@ impl<G: Grammar, L: Lattice, W: Weighing> SettledChart<G, L, W> {
     }
 
     // The entry of a phrase's edge, if that is finished.
-    fn finished(&self, phrase: Phrase) -> Result<Standing, SettledRefusal>
-        ensures found { told settled_number result
+    fn finished(&self, phrase: Phrase) -> Result<Entry, SettledRefusal>
+        ensures found { by_number settled_number result
             ≡ found_answer (task self.now) (chart self.now) phrase }
-        ensures earlier { IfOk result (λ s. Named (chart self.now) s.at) }
+        ensures finished { IfOk result (λ s. IsFinished (chart self.now) s.at) }
     {
         let last = self.working.setting.lattice.last_node();
-        let edge = phrase.edge_within(last).ok_or(SettledRefusal::NoStretch)?;
-        self.working.table.standing(edge).ok_or(self.missing())
+        let edge = phrase.edge_within(last).ok_or(SettledRefusal::NoSpan)?;
+        self.working
+            .table
+            .finished_entry_of(edge)
+            .ok_or(self.missing())
     }
 
     /// The weight of a phrase's lightest derivation. Refused with 7 if the lattice has no such span, with 9 if there is no
     /// derivation, and with 10 if the chart is full and has not finished the edge.
     pub fn question(&self, phrase: Phrase) -> Result<u64, SettledRefusal>
-        ensures answer { told settled_number result
+        ensures answer { by_number settled_number result
             ≡ settled_answer (task self.now) (chart self.now) phrase }
         ensures says { SettledSays (task self.now) room (chart self.now) phrase
-            (told settled_number result) }
+            (by_number settled_number result) }
     {
         Ok(self.finished(phrase)?.weight)
     }
 
-    /// Writes the nodes of a phrase's lightest derivation over the front of a list, in pre-order, and answers how many.
-    /// Refused as a question, the list untouched, and with 12 if the list is too short, which then holds the first nodes.
+    /// The pre-order of a phrase's lightest derivation, over the front of a list; answers its length. Refused with 7, 9 or
+    /// 10 like a question, the list untouched; with 12 for more nodes than room, the list then a prefix of the pre-order.
     pub fn reading(&self, phrase: Phrase, nodes: &mut [Node]) -> Result<usize, ReadingRefusal>
-        ensures answer { told reading_number result
+        ensures answer { by_number reading_number result
             ≡ reading_answer (task self.now) (chart self.now) phrase (length nodes.old) }
         ensures list { nodes.new ≡ reading_list (task self.now) (chart self.now) phrase nodes.old }
         ensures says { ReadingSays (task self.now) room (chart self.now) phrase nodes.old nodes.new
-            (told reading_number result) }
+            (by_number reading_number result) }
     {
         let at = self.finished(phrase)?.at;
         let table = &self.working.table;

@@ -3,12 +3,12 @@ ghost use Rattle.std.specs.Prelude.{◌≡◌, ◌≤◌, true, length, IfSome, 
 ghost use Rattle.std.specs.List.{slice_get};
 ghost use Rattle.chart_model.specs.Plain.{blank, done, carried as carried_plain};
 ghost use Rattle.chart_model.specs.Origins.{orderly};
-ghost use Rattle.chart.specs.View.{room, view, standing_at, standing_of};
-ghost use Rattle.chart.specs.View.{lightest_in, arrived, finishing_next, Named, NamesEarlier};
+ghost use Rattle.chart.specs.View.{room, view, finished_entry_at, finished_entry_of};
+ghost use Rattle.chart.specs.View.{lightest_in, arrived, finishing_next, IsFinished, NamesFinished};
 
 use crate::places::Places;
 use chart_model::edge::Edge;
-use chart_model::place::{Arrival, Place, Standing};
+use chart_model::place::{Arrival, Entry, Place};
 use weighing::Weighing;
 
 // By `orderly` a walk along origins ends: each premise was finished before its conclusion.
@@ -54,52 +54,52 @@ impl Table {
     }
 
     // The entry of a place, if it is finished.
-    pub(crate) fn finished_at(&self, at: usize) -> Option<Standing>
-        ensures stands { result ≡ standing_at (held self.now).places at }
-        ensures earlier { IfSome result (λ s. Named (held self.now) s.at) }
+    pub(crate) fn finished_entry_at(&self, at: usize) -> Option<Entry>
+        ensures answer { result ≡ finished_entry_at (held self.now).places at }
+        ensures finished { IfSome result (λ s. IsFinished (held self.now) s.at) }
     {
         let place = self.places.at(at)?;
-        place.finished?;
+        place.rank?;
         // The number of a place fits 16 bits.
-        Some(place.seen(at as u16))
+        Some(place.entry(at as u16))
     }
 
     // The place of a finished edge.
     pub(crate) fn place(&self, at: u16) -> Place
-        requires { Named (held self.now) at }
+        requires { IsFinished (held self.now) at }
         ensures { slice_get (held self.now).places at ≡ Some result }
     {
         self.places.slots[usize::from(at)]
     }
 
     // The entry of an edge, if it is finished.
-    pub(crate) fn standing(&self, edge: Edge) -> Option<Standing>
-        ensures stands { result ≡ standing_of edge (held self.now).places }
-        ensures earlier { IfSome result (λ s. Named (held self.now) s.at) }
+    pub(crate) fn finished_entry_of(&self, edge: Edge) -> Option<Entry>
+        ensures answer { result ≡ finished_entry_of edge (held self.now).places }
+        ensures finished { IfSome result (λ s. IsFinished (held self.now) s.at) }
     {
-        self.finished_at(self.places.find(edge)?)
+        self.finished_entry_at(self.places.find(edge)?)
     }
 
     // The weight of a finished edge.
     pub(crate) fn carried(&self, edge: Edge) -> Option<u64>
         ensures { result ≡ carried_plain edge (held self.now).places }
     {
-        Some(self.standing(edge)?.weight)
+        Some(self.finished_entry_of(edge)?.weight)
     }
 
     // An arrival, whose premises have to be finished.
     pub(crate) fn arrive<W: Weighing>(&mut self, weighing: &W, arrival: Arrival)
-        requires { NamesEarlier (held self.old) arrival }
+        requires { NamesFinished (held self.old) arrival }
         ensures { held self.new ≡ arrived (W.weights weighing.now) (held self.old) arrival }
     {
         self.places.arrive(weighing, arrival);
     }
 
     // Pops the agenda: finishes the lightest open edge, in a tie the one with the lower place.
-    pub(crate) fn finish_lightest<W: Weighing>(&mut self, weighing: &W) -> Option<Standing>
+    pub(crate) fn finish_lightest<W: Weighing>(&mut self, weighing: &W) -> Option<Entry>
         ensures lightest { result ≡ lightest_in (W.weights weighing.now) (held self.old) }
         ensures view { held self.new ≡ finishing_next (held self.old) result }
-        ensures earlier { IfSome result (λ s. Named (held self.new) s.at) }
+        ensures finished { IfSome result (λ s. IsFinished (held self.new) s.at) }
     {
         let lightest = self.places.lightest(weighing)?;
         self.places.finish(usize::from(lightest.at));

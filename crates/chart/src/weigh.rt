@@ -1,7 +1,7 @@
 // From opening to an answer in one call.
 ghost use Rattle.std.specs.Prelude.{◌≡◌};
 ghost use Rattle.chart.specs.Settings.{task};
-ghost use Rattle.chart.specs.Refusals.{settled_number, told};
+ghost use Rattle.chart.specs.Refusals.{settled_number, by_number};
 ghost use Rattle.chart.specs.Saying.{weigh_answer, WeighedSays};
 
 use crate::refusal::SettledRefusal;
@@ -18,8 +18,8 @@ pub fn weigh<G: Grammar + Drop, L: Lattice + Drop, W: Weighing + Drop>(
     setting: Setting<G, L, W>,
     phrase: Phrase,
 ) -> Result<u64, SettledRefusal>
-    ensures answer { told settled_number result ≡ weigh_answer (task setting) phrase }
-    ensures says { WeighedSays (task setting) phrase (told settled_number result) }
+    ensures answer { by_number settled_number result ≡ weigh_answer (task setting) phrase }
+    ensures says { WeighedSays (task setting) phrase (by_number settled_number result) }
 {
     let chart = WorkingChart::open(setting).settle();
     chart.question(phrase)

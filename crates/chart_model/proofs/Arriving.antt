@@ -11,11 +11,11 @@ use Rattle.chart_model.specs.declared.place.Place.{Place}
 use Rattle.std.proofs.lemmas.Bool.{true≢false, or_cases, or_parts, ltb-true, ltb-false}
 use Rattle.chart_model.proofs.AtMost.{AtMost}
 use Rattle.chart_model.proofs.Members.{In}
-use Rattle.chart_model.proofs.Placing.{Reaches, Beyond, Brought, apart, placed_from, placed_keeps, placed_reaches, placed_apart, placed_done, placed_length, placed_grows, placed_held}
+use Rattle.chart_model.proofs.Placing.{Attains, Beyond, Brought, apart, placed_from, placed_keeps, placed_attains, placed_apart, placed_done, placed_length, placed_grows, placed_held}
 
 -- the edge has a place and weighs v or less there, or the chart is full and no finished edge weighs more than v
 abbrev pub Answered : Weights → Chart → Edge → ℕ → Type 0
-Answered ws c e v = Reaches ws c.places e v ⊎ ((c.full ≡ true) × Beyond ws c.places v)
+Answered ws c e v = Attains ws c.places e v ⊎ ((c.full ≡ true) × Beyond ws c.places v)
 
 -- all weights in the chart are codes
 abbrev pub Coded : List Place → Type 0
@@ -88,12 +88,12 @@ module _ (capacity : ℕ) (lighter : ℕ → ℕ → Bool) where
       go (inr b) = inr (b.0, inr b.1, b.2)
 
   pub arrive_all_finished : (as' : List Arrival) (c : Chart) (p : Place) → In p (arrive_all capacity lighter c as').places →
-      is_open p.finished ≡ false → In p c.places
-  arrive_all_finished as' c p i shut = go (arrive_all_from as' c p i)
+      is_open p.rank ≡ false → In p c.places
+  arrive_all_finished as' c p i closed = go (arrive_all_from as' c p i)
     where
       go : In p c.places ⊎ ((a : Arrival) × In a as' × Brought a p) → In p c.places
       go (inl j) = j
-      go (inr b) = absurd (true≢false (sym b.2.0 ∙ shut))
+      go (inr b) = absurd (true≢false (sym b.2.0 ∙ closed))
 
   pub arrive_all_apart : (as' : List Arrival) (c : Chart) → apart c.places → apart (arrive_all capacity lighter c as').places
   arrive_all_apart as' =
@@ -138,7 +138,7 @@ module _ (capacity : ℕ) (lighter : ℕ → ℕ → Bool) where
       arrive_all_keep (Fits capacity) as'
       (λ a _ c h. arrive_cases c a (Fits capacity) (λ _. h)
       (λ _ room. record { within = placed_fits c a room h.within; taken = λ f. absurd (true≢false (sym f)) })
-      (λ _ _ over. record { within = h.within; taken = λ _. over }))
+      (λ _ _ taken. record { within = h.within; taken = λ _. taken }))
 
   pub arrive_all_refused : (t : Task) (as' : List Arrival) → ((a : Arrival) → In a as' → Derives t a.edge) →
       (c : Chart) → Refused t c → Refused t (arrive_all capacity lighter c as')
@@ -170,7 +170,7 @@ module _ (capacity : ℕ) (ws : Weights) (law : Lawful ws) where
       Answered ws (arrive capacity ws.lighter c a) a.edge a.weight
   arrive_answers a code c coded beyond =
       arrive_cases capacity ws.lighter c a (λ d. Answered ws d a.edge a.weight)
-      (λ f. inr (f, beyond)) (λ _ _. inl (placed_reaches ws law a code c.places coded beyond)) (λ _ _ _. inr (refl, beyond))
+      (λ f. inr (f, beyond)) (λ _ _. inl (placed_attains ws law a code c.places coded beyond)) (λ _ _ _. inr (refl, beyond))
 
   -- each arrival that no finished edge outweighs is answered
   pub arrive_all_answers : (as' : List Arrival) → ((a : Arrival) → In a as' → Code a.weight) →
@@ -184,12 +184,12 @@ module _ (capacity : ℕ) (ws : Weights) (law : Lawful ws) where
   arrive_all_answers (b ∷ later) codes c coded a (inr i) beyond =
       arrive_all_answers later (λ x j. codes x (inr j)) (arrive capacity ws.lighter c b)
       (λ p j. coded_still p (arrive_from capacity ws.lighter c b p j)) a i
-      (λ p j shut. beyond_still p shut (arrive_from capacity ws.lighter c b p j))
+      (λ p j closed. beyond_still p closed (arrive_from capacity ws.lighter c b p j))
     where
       coded_still : (p : Place) → In p c.places ⊎ Brought b p → Code p.weight
       coded_still p (inl j) = coded p j
       coded_still p (inr brought) = subst Code (sym brought.2) (codes b (inl refl))
 
-      beyond_still : (p : Place) → is_open p.finished ≡ false → In p c.places ⊎ Brought b p → AtMost ws p.weight a.weight
-      beyond_still p shut (inl j) = beyond p j shut
-      beyond_still p shut (inr brought) = absurd (true≢false (sym brought.0 ∙ shut))
+      beyond_still : (p : Place) → is_open p.rank ≡ false → In p c.places ⊎ Brought b p → AtMost ws p.weight a.weight
+      beyond_still p closed (inl j) = beyond p j closed
+      beyond_still p closed (inr brought) = absurd (true≢false (sym brought.0 ∙ closed))

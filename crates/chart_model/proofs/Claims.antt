@@ -6,7 +6,7 @@ use Rattle.grammar.specs.Rules.{Rule}
 use Rattle.std.specs.List.{slice_get}
 use Rattle.chart_model.specs.Task.{Task, Sound}
 use Rattle.chart_model.specs.Derivation.{Tree, Row, word, rule, none, more, tree_weight, row_weight, Derives, weight_of}
-use Rattle.chart_model.specs.Plain.{Chart, is_open, reached}
+use Rattle.chart_model.specs.Plain.{Chart, is_open, rule_edge}
 use Rattle.chart_model.specs.declared.edge.Edge.{Edge}
 use Rattle.chart_model.specs.declared.edge.Edge.TheVariants.{Passive, Active}
 use Rattle.chart_model.specs.declared.place.Place.{Place}
@@ -15,7 +15,7 @@ use Rattle.std.proofs.lemmas.List.{take_all}
 use Rattle.chart_model.proofs.AtMost.{AtMost, at_most_refl, at_most_trans, at_most_left, at_most_right, at_most_join}
 use Rattle.chart_model.proofs.Members.{In, nth_below}
 use Rattle.chart_model.proofs.Derivations.{rule_code, tree_code, row_end}
-use Rattle.chart_model.proofs.Conclusions.{reached_active, reached_passive}
+use Rattle.chart_model.proofs.Conclusions.{rule_edge_active, rule_edge_passive}
 use Rattle.chart_model.proofs.Placing.{Beyond}
 use Rattle.chart_model.proofs.Arriving.{Answered}
 use Rattle.chart_model.specs.Origins.{AtPlace}
@@ -24,12 +24,12 @@ use Rattle.chart_model.proofs.Invariant.{Inv}
 
 -- the edge is finished, and no heavier
 abbrev pub Done : Task → Chart → Edge → ℕ → Type 0
-Done t c e v = (p : Place) × In p c.places × (p.edge ≡ e) × (is_open p.finished ≡ false) × AtMost t.weights p.weight v
+Done t c e v = (p : Place) × In p c.places × (p.edge ≡ e) × (is_open p.rank ≡ false) × AtMost t.weights p.weight v
 
 -- some open edge is no heavier, or the chart is full and no finished edge is
 abbrev pub Late : Task → Chart → ℕ → Type 0
 Late t c v =
-    ((q : Place) × In q c.places × (is_open q.finished ≡ true) × AtMost t.weights q.weight v)
+    ((q : Place) × In q c.places × (is_open q.rank ≡ true) × AtMost t.weights q.weight v)
     ⊎ ((c.full ≡ true) × Beyond t.weights c.places v)
 
 abbrev pub Claim : Task → Chart → Edge → ℕ → Type 0
@@ -69,18 +69,18 @@ no_symbols (x ∷ xs) h = absurd (omega arith)
 module _ (t : Task) (s : Sound t) (c : Chart) (inv : Inv t c) where
   late_up : (v w : ℕ) → AtMost t.weights v w → Late t c v → Late t c w
   late_up v w le (inl f) = inl (f.0, f.1, f.2, at_most_trans t.weights s.weighing f.0.weight v w f.3 le)
-  late_up v w le (inr f) = inr (f.0, λ p i shut. at_most_trans t.weights s.weighing p.weight v w (f.1 p i shut) le)
+  late_up v w le (inr f) = inr (f.0, λ p i closed. at_most_trans t.weights s.weighing p.weight v w (f.1 p i closed) le)
 
   claim_up : (e : Edge) (v w : ℕ) → AtMost t.weights v w → Claim t c e v → Claim t c e w
   claim_up e v w le (inl f) = inl (f.0, f.1, f.2, f.3, at_most_trans t.weights s.weighing f.0.weight v w f.4 le)
   claim_up e v w le (inr f) = inr (late_up v w le f)
 
   answered_claim : (e : Edge) (v : ℕ) → Answered t.weights c e v → Claim t c e v
-  answered_claim e v (inl f) = go (cases_Bool (is_open f.0.finished))
+  answered_claim e v (inl f) = go (cases_Bool (is_open f.0.rank))
     where
-      go : (is_open f.0.finished ≡ true) ⊎ (is_open f.0.finished ≡ false) → Claim t c e v
-      go (inl opened) = inr (inl (f.0, f.1, opened, f.3))
-      go (inr shut) = inl (f.0, f.1, f.2, shut, f.3)
+      go : (is_open f.0.rank ≡ true) ⊎ (is_open f.0.rank ≡ false) → Claim t c e v
+      go (inl queued) = inr (inl (f.0, f.1, queued, f.3))
+      go (inr closed) = inl (f.0, f.1, f.2, closed, f.3)
   answered_claim e v (inr f) = inr (inr f)
 
   -- a finished edge stands at some place
@@ -88,32 +88,32 @@ module _ (t : Task) (s : Sound t) (c : Chart) (inv : Inv t c) where
   done_at e v f = in_place c.places f.0 f.1 f.3 (record { at = 0; edge = e; weight = f.0.weight }) f.2 refl
 
   claim_first : (n : ℕ) (r : Rule) (x i j w : ℕ) → slice_get t.rules n ≡ Some r → slice_get r.right 0 ≡ Some x → Code w →
-      Claim t c (Passive x i j) w → Claim t c (reached n r 1 i j) (t.weights.join (t.weights.weigh r.mark) w)
+      Claim t c (Passive x i j) w → Claim t c (rule_edge n r 1 i j) (t.weights.join (t.weights.weigh r.mark) w)
   claim_first n r x i j w e begins code (inl f) =
       let own = t.weights.weigh r.mark in
       let v = f.0.weight in
       let own_code = rule_code t s n r e in
       let (m, at) = done_at (Passive x i j) w f in
-      claim_up (reached n r 1 i j) (t.weights.join own v) (t.weights.join own w)
+      claim_up (rule_edge n r 1 i j) (t.weights.join own v) (t.weights.join own w)
       (at_most_join t.weights s.weighing own own v w (at_most_refl t.weights s.weighing own own_code) f.4)
-      (answered_claim (reached n r 1 i j) (t.weights.join own v)
-      (inv.firsts (record { at = m; edge = Passive x i j; weight = v }) at n (reached n r 1 i j) (t.weights.join own v)
+      (answered_claim (rule_edge n r 1 i j) (t.weights.join own v)
+      (inv.firsts (record { at = m; edge = Passive x i j; weight = v }) at n (rule_edge n r 1 i j) (t.weights.join own v)
       (record { symbol = x; from = i; to = j; passive = refl; conclusion = record { by = r; there = e; begins = begins; edge = refl; weight = refl } })))
   claim_first n r x i j w e begins code (inr late) =
       let own = t.weights.weigh r.mark in
       inr (late_up w (t.weights.join own w) (at_most_right t.weights s.weighing own w (rule_code t s n r e) code) late)
 
   claim_next : (n : ℕ) (r : Rule) (k h g u x l w : ℕ) → slice_get t.rules n ≡ Some r → slice_get r.right k ≡ Some x → Code u → Code w →
-      Claim t c (Active n k h g) u → Claim t c (Passive x g l) w → Claim t c (reached n r (suc k) h l) (t.weights.join u w)
+      Claim t c (Active n k h g) u → Claim t c (Passive x g l) w → Claim t c (rule_edge n r (suc k) h l) (t.weights.join u w)
   claim_next n r k h g u x l w e wanted cu cw (inl a) (inl b) =
       let p = a.0.weight in
       let q = b.0.weight in
       let (m, at) = done_at (Active n k h g) u a in
       let (o, there) = done_at (Passive x g l) w b in
-      claim_up (reached n r (suc k) h l) (t.weights.join p q) (t.weights.join u w)
+      claim_up (rule_edge n r (suc k) h l) (t.weights.join p q) (t.weights.join u w)
       (at_most_join t.weights s.weighing p u q w a.4 b.4)
-      (answered_claim (reached n r (suc k) h l) (t.weights.join p q)
-      (inv.nexts (record { at = m; edge = Active n k h g; weight = p }) (record { at = o; edge = Passive x g l; weight = q }) at there (reached n r (suc k) h l) (t.weights.join p q)
+      (answered_claim (rule_edge n r (suc k) h l) (t.weights.join p q)
+      (inv.nexts (record { at = m; edge = Active n k h g; weight = p }) (record { at = o; edge = Passive x g l; weight = q }) at there (rule_edge n r (suc k) h l) (t.weights.join p q)
       (record {
         rule = n;
         seen = k;
@@ -133,16 +133,16 @@ module _ (t : Task) (s : Sound t) (c : Chart) (inv : Inv t c) where
   -- rule n has come from h to i by its first k symbols, at weight u
   abbrev Sofar : ℕ → Rule → ℕ → ℕ → ℕ → ℕ → Type 0
   Sofar n r h zero i u = (i ≡ h) × (u ≡ t.weights.weigh r.mark)
-  Sofar n r h (suc k) i u = Claim t c (reached n r (suc k) h i) u
+  Sofar n r h (suc k) i u = Claim t c (rule_edge n r (suc k) h i) u
 
   sofar_more : (n : ℕ) (r : Rule) (h k i u x j w : ℕ) → slice_get t.rules n ≡ Some r → slice_get r.right k ≡ Some x → Code u → Code w →
       Sofar n r h k i u → Claim t c (Passive x i j) w → Sofar n r h (suc k) j (t.weights.join u w)
   sofar_more n r h zero i u x j w e begins cu cw (at_start, own) child =
-      subst (λ v. Claim t c (reached n r 1 h j) (t.weights.join v w)) (sym own)
+      subst (λ v. Claim t c (rule_edge n r 1 h j) (t.weights.join v w)) (sym own)
       (claim_first n r x h j w e begins cw (subst (λ m. Claim t c (Passive x m j) w) at_start child))
   sofar_more n r h (suc k) i u x j w e wanted cu cw sofar child =
       claim_next n r (suc k) h i u x j w e wanted cu cw
-      (subst (λ f. Claim t c f u) (reached_active n r (suc k) h i (nth_below r.right (suc k) x wanted)) sofar) child
+      (subst (λ f. Claim t c f u) (rule_edge_active n r (suc k) h i (nth_below r.right (suc k) x wanted)) sofar) child
 
   -- at the end of the right side the rule has reached its left symbol
   sofar_whole : (n : ℕ) (r : Rule) (h m j v : ℕ) → slice_get t.rules n ≡ Some r → m ≡ length r.right → j ≤ t.last →
@@ -159,11 +159,11 @@ module _ (t : Task) (s : Sound t) (c : Chart) (inv : Inv t c) where
         edge = ap (λ z. Passive r.left z j) (sym at_start);
         weight = own;
       }))
-  sofar_whole n r h (suc m) j v e whole within sofar = subst (λ f. Claim t c f v) (reached_passive n r (suc m) h j whole) sofar
+  sofar_whole n r h (suc m) j v e whole within sofar = subst (λ f. Claim t c f v) (rule_edge_passive n r (suc m) h j whole) sofar
 
   sofar_part : (n : ℕ) (r : Rule) (h m k j v : ℕ) → m ≡ suc k → suc k < length r.right → Sofar n r h m j v → Claim t c (Active n (suc k) h j) v
   sofar_part n r h m k j v same below sofar =
-      subst (λ f. Claim t c f v) (reached_active n r (suc k) h j below) (subst (λ z. Sofar n r h z j v) same sofar)
+      subst (λ f. Claim t c f v) (rule_edge_active n r (suc k) h j below) (subst (λ z. Sofar n r h z j v) same sofar)
 
   mutual
     claim_tree : {x i j : ℕ} (d : Tree t x i j) → Claim t c (Passive x i j) (tree_weight d)
@@ -193,6 +193,6 @@ module _ (t : Task) (s : Sound t) (c : Chart) (inv : Inv t c) where
 
   -- what comes late comes after every finished edge
   pub late_beyond : (v : ℕ) → Late t c v → Beyond t.weights c.places v
-  late_beyond v (inl f) p i shut =
-      at_most_trans t.weights s.weighing p.weight f.0.weight v (inv.ordered p f.0 i f.1 shut f.2) f.3
-  late_beyond v (inr f) p i shut = f.1 p i shut
+  late_beyond v (inl f) p i closed =
+      at_most_trans t.weights s.weighing p.weight f.0.weight v (inv.ordered p f.0 i f.1 closed f.2) f.3
+  late_beyond v (inr f) p i closed = f.1 p i closed

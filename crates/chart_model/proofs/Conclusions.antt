@@ -8,7 +8,7 @@ use Rattle.grammar.specs.Rules.{Rule}
 use Rattle.chart_model.specs.Task.{Task, Sound}
 use Rattle.chart_model.specs.Derivation.{word, rule, none}
 use Rattle.chart_model.specs.Listing.{node, headed, word_node}
-use Rattle.chart_model.specs.Plain.{reached, wants}
+use Rattle.chart_model.specs.Plain.{rule_edge, wants}
 use Rattle.chart_model.specs.Stands.{Weighs}
 use Rattle.chart_model.specs.Origins.{ByWord, ByEmpty, ByFirst, ByNext}
 use Rattle.chart_model.specs.declared.node.Kind.TheVariants.{Rule as RuleNode}
@@ -17,7 +17,7 @@ use Rattle.chart_model.specs.declared.edge.Edge.{Edge}
 use Rattle.chart_model.specs.declared.edge.Edge.TheVariants.{Passive, Active}
 use Rattle.chart_model.proofs.AtMost.{AtMost, at_most_left, at_most_right}
 use Rattle.chart_model.proofs.Members.{some_same, nth_below}
-use Rattle.chart_model.proofs.Derivations.{Reads, RuleReads, Rows, Begun, nodes_of, weighs_reads, reads_weighs, rule_code, begun_first, begun_more, begun_reached}
+use Rattle.chart_model.proofs.Derivations.{Reads, RuleReads, Rows, Begun, nodes_of, weighs_reads, reads_weighs, rule_code, begun_first, begun_more, begun_rule_edge}
 
 pub wants_true : (right : List ℕ) (k x : ℕ) → wants right k x ≡ true → slice_get right k ≡ Some x
 wants_true right k x = go (slice_get right k)
@@ -31,15 +31,15 @@ wants_from right k x e =
     subst (λ (o : Option ℕ). elim o as (λ _. Bool) [ None ↦ false | Some y ↦ eqb y x ] ≡ true) (sym e) (eq-eqb x x refl)
 
 -- a rule with symbols left is not at its end
-pub reached_active : (n : ℕ) (r : Rule) (k i j : ℕ) → k < length r.right → reached n r k i j ≡ Active n k i j
-reached_active n r k i j below = go (eqb k (length r.right)) refl
+pub rule_edge_active : (n : ℕ) (r : Rule) (k i j : ℕ) → k < length r.right → rule_edge n r k i j ≡ Active n k i j
+rule_edge_active n r k i j below = go (eqb k (length r.right)) refl
   where
     go : (b : Bool) → eqb k (length r.right) ≡ b → elim b as (λ _. Edge) [ true ↦ Passive r.left i j | false ↦ Active n k i j ] ≡ Active n k i j
     go true h = let same = eqb-true k (length r.right) h in absurd (omega arith)
     go false h = refl
 
-pub reached_passive : (n : ℕ) (r : Rule) (k i j : ℕ) → k ≡ length r.right → reached n r k i j ≡ Passive r.left i j
-reached_passive n r k i j e =
+pub rule_edge_passive : (n : ℕ) (r : Rule) (k i j : ℕ) → k ≡ length r.right → rule_edge n r k i j ≡ Passive r.left i j
+rule_edge_passive n r k i j e =
     ap (λ b. elim b as (λ _. Edge) [ true ↦ Passive r.left i j | false ↦ Active n k i j ]) (eq-eqb k (length r.right) e)
 
 module _ (t : Task) (s : Sound t) where
@@ -57,7 +57,7 @@ module _ (t : Task) (s : Sound t) where
       let r = c.by in
       let within : 0 < length r.right = nth_below r.right 0 x c.begins in
       subst₂ (RuleReads t n ns) (sym c.edge) (sym c.weight)
-      (begun_reached t s n r 1 i j (t.weights.join (t.weights.weigh r.mark) w) ns c.there (omega arith) within
+      (begun_rule_edge t s n r 1 i j (t.weights.join (t.weights.weigh r.mark) w) ns c.there (omega arith) within
       (begun_first t s r x i j w ns c.begins d))
 
   pub next_reads : (n k h g u x l w : ℕ) (ms ns : List Node) (e : Edge) (v : ℕ) →
@@ -68,7 +68,7 @@ module _ (t : Task) (s : Sound t) where
       let same : a.0.0 ≡ r = some_same (sym a.0.1 ∙ c.there) in
       let begun : Begun t r k h g u ms = subst (λ (q : Rule). Begun t q k h g u ms) same (a.0.3, a.1, a.2) in
       subst₂ (RuleReads t n (ms ++ ns)) (sym c.edge) (sym c.weight)
-      (begun_reached t s n r (suc k) h l (t.weights.join u w) (ms ++ ns) c.there (omega arith) within
+      (begun_rule_edge t s n r (suc k) h l (t.weights.join u w) (ms ++ ns) c.there (omega arith) within
       (begun_more t s r k x h g l u w ms ns c.wanted begun d))
 
   pub word_weighs : (n : ℕ) (e : Edge) (v : ℕ) → ByWord t n e v → Weighs t e v

@@ -12,7 +12,7 @@ use Rattle.lattice.specs.declared.word.Word.{Word}
 use Rattle.chart_model.specs.Task.{Task, Sound}
 use Rattle.chart_model.specs.Derivation.{Tree, Row, word, rule, none, more, tree_weight, row_weight, Derives, weight_of, LiesWithin}
 use Rattle.chart_model.specs.Listing.{node, tree_nodes, row_nodes, headed}
-use Rattle.chart_model.specs.Plain.{reached}
+use Rattle.chart_model.specs.Plain.{rule_edge}
 use Rattle.chart_model.specs.Stands.{Weighs}
 use Rattle.chart_model.specs.declared.node.Kind.TheVariants.{Rule as RuleNode}
 use Rattle.chart_model.specs.declared.node.Node.{Node}
@@ -134,9 +134,9 @@ module _ (t : Task) (s : Sound t) where
         after.2 ∙ (λ d'. b.2 d' ++ d.2 d'),
       )
 
-  pub begun_reached : (n : ℕ) (r : Rule) (k i j v : ℕ) (ns : List Node) → slice_get t.rules n ≡ Some r → 0 < k → k ≤ length r.right →
-      Begun t r k i j v ns → RuleReads t n ns (reached n r k i j) v
-  begun_reached n r k i j v ns e some within b = go (eqb k (length r.right)) refl
+  pub begun_rule_edge : (n : ℕ) (r : Rule) (k i j v : ℕ) (ns : List Node) → slice_get t.rules n ≡ Some r → 0 < k → k ≤ length r.right →
+      Begun t r k i j v ns → RuleReads t n ns (rule_edge n r k i j) v
+  begun_rule_edge n r k i j v ns e some within b = go (eqb k (length r.right)) refl
     where
       go : (test : Bool) → eqb k (length r.right) ≡ test → RuleReads t n ns (elim test [ true ↦ Passive r.left i j | false ↦ Active n k i j ]) v
       go true h =

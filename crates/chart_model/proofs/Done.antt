@@ -7,10 +7,10 @@ use Rattle.chart_model.proofs.Members.{In}
 
 -- by the first place, and those after it
 abbrev pub done_by : Bool → ℕ → ℕ
-done_by opened later = elim opened [ true ↦ later | false ↦ suc later ]
+done_by queued later = elim queued [ true ↦ later | false ↦ suc later ]
 
-pub done_cons : (p : Place) (ps : List Place) → done (p ∷ ps) ≡ done_by (is_open p.finished) (done ps)
-done_cons p ps = sum_by-cons (λ (q : Place). cond (not (is_open q.finished)) 1 0) p ps ∙ go (is_open p.finished)
+pub done_cons : (p : Place) (ps : List Place) → done (p ∷ ps) ≡ done_by (is_open p.rank) (done ps)
+done_cons p ps = sum_by-cons (λ (q : Place). cond (not (is_open q.rank)) 1 0) p ps ∙ go (is_open p.rank)
   where
     go : (b : Bool) → cond (not b) 1 0 + done ps ≡ done_by b (done ps)
     go true = omega arith
@@ -18,16 +18,16 @@ done_cons p ps = sum_by-cons (λ (q : Place). cond (not (is_open q.finished)) 1 
 
 -- no more than there are
 pub done_within : (ps : List Place) → done ps ≤ length ps
-done_within ps = count_by-le-length (λ (p : Place). not (is_open p.finished)) ps
+done_within ps = count_by-le-length (λ (p : Place). not (is_open p.rank)) ps
 
 -- fewer where one is open
-pub open_left : (ps : List Place) (p : Place) → In p ps → is_open p.finished ≡ true → done ps < length ps
-open_left [] p i opened = absurd i
-open_left (q ∷ ps) p (inl same) opened =
+pub open_left : (ps : List Place) (p : Place) → In p ps → is_open p.rank ≡ true → done ps < length ps
+open_left [] p i queued = absurd i
+open_left (q ∷ ps) p (inl same) queued =
     let rest : done ps ≤ length ps = done_within ps in
-    let here : done (q ∷ ps) ≡ done ps = done_cons q ps ∙ ap (λ b. done_by b (done ps)) (ap (λ (r : Place). is_open r.finished) same ∙ opened) in
+    let here : done (q ∷ ps) ≡ done ps = done_cons q ps ∙ ap (λ b. done_by b (done ps)) (ap (λ (r : Place). is_open r.rank) same ∙ queued) in
     omega arith
-open_left (q ∷ ps) p (inr i) opened = go (open_left ps p i opened) (is_open q.finished) (done_cons q ps)
+open_left (q ∷ ps) p (inr i) queued = go (open_left ps p i queued) (is_open q.rank) (done_cons q ps)
   where
     go : done ps < length ps → (b : Bool) → done (q ∷ ps) ≡ done_by b (done ps) → done (q ∷ ps) < length (q ∷ ps)
     go rest true here = omega arith

@@ -2,33 +2,33 @@
 use Rattle.std.proofs.Common.{◌≡◌, ℕ, zero, suc, Bool, true, false, ◌||◌, ◌⊎◌, List, [], ◌∷◌, length, Some, sym, refl, ap, ◌∙◌, subst, inl, inr}
 use Rattle.weighing.specs.Laws.{Weights}
 use Rattle.std.specs.List.{slice_get}
-use Rattle.chart_model.specs.Plain.{is_open, holds, same_edge, ended, finish, done}
+use Rattle.chart_model.specs.Plain.{is_open, holds, same_edge, finished_place, finish, done}
 use Rattle.chart_model.specs.declared.edge.Edge.{Edge}
 use Rattle.chart_model.specs.declared.place.Place.{Place}
 use Rattle.chart_model.proofs.AtMost.{AtMost}
 use Rattle.chart_model.proofs.Members.{In, none_some, some_same}
-use Rattle.chart_model.proofs.Placing.{Reaches, apart}
+use Rattle.chart_model.proofs.Placing.{Attains, apart}
 use Rattle.chart_model.proofs.Done.{done_by, done_cons}
 
-pub finish_from : (number n : ℕ) (ps : List Place) (p : Place) → slice_get ps n ≡ Some p → (q : Place) → In q (finish number n ps) → In q ps ⊎ (ended number p ≡ q)
+pub finish_from : (number n : ℕ) (ps : List Place) (p : Place) → slice_get ps n ≡ Some p → (q : Place) → In q (finish number n ps) → In q ps ⊎ (finished_place number p ≡ q)
 finish_from number n [] p e q i = absurd i
-finish_from number zero (x ∷ ps) p e q (inl h) = inr (ap (ended number) (sym (some_same e)) ∙ h)
+finish_from number zero (x ∷ ps) p e q (inl h) = inr (ap (finished_place number) (sym (some_same e)) ∙ h)
 finish_from number zero (x ∷ ps) p e q (inr i) = inl (inr i)
 finish_from number (suc n) (x ∷ ps) p e q (inl h) = inl (inl h)
 finish_from number (suc n) (x ∷ ps) p e q (inr i) = elim (finish_from number n ps p e q i) [ inl j ↦ inl (inr j) | inr h ↦ inr h ]
 
-pub finish_there : (number n : ℕ) (ps : List Place) (p : Place) → slice_get ps n ≡ Some p → slice_get (finish number n ps) n ≡ Some (ended number p)
+pub finish_there : (number n : ℕ) (ps : List Place) (p : Place) → slice_get ps n ≡ Some p → slice_get (finish number n ps) n ≡ Some (finished_place number p)
 finish_there number n [] p e = absurd (none_some e)
-finish_there number zero (x ∷ ps) p e = ap (λ q. Some (ended number q)) (some_same e)
+finish_there number zero (x ∷ ps) p e = ap (λ q. Some (finished_place number q)) (some_same e)
 finish_there number (suc n) (x ∷ ps) p e = finish_there number n ps p e
 
-pub finish_keeps : (ws : Weights) (number n : ℕ) (ps : List Place) (e : Edge) (v : ℕ) → Reaches ws ps e v → Reaches ws (finish number n ps) e v
+pub finish_keeps : (ws : Weights) (number n : ℕ) (ps : List Place) (e : Edge) (v : ℕ) → Attains ws ps e v → Attains ws (finish number n ps) e v
 finish_keeps ws number n ps e v r = go number n ps r.1
   where
-    go : (number n : ℕ) (ps : List Place) → In r.0 ps → Reaches ws (finish number n ps) e v
+    go : (number n : ℕ) (ps : List Place) → In r.0 ps → Attains ws (finish number n ps) e v
     go number n [] i = absurd i
     go number zero (x ∷ ps) (inl h) =
-        (ended number x, inl refl, ap (λ (p : Place). p.edge) h ∙ r.2, subst (λ (p : Place). AtMost ws p.weight v) (sym h) r.3)
+        (finished_place number x, inl refl, ap (λ (p : Place). p.edge) h ∙ r.2, subst (λ (p : Place). AtMost ws p.weight v) (sym h) r.3)
     go number zero (x ∷ ps) (inr i) = (r.0, inr i, r.2, r.3)
     go number (suc n) (x ∷ ps) (inl h) = (r.0, inl h, r.2, r.3)
     go number (suc n) (x ∷ ps) (inr i) = let s = go number n ps i in (s.0, inr s.1, s.2, s.3)
@@ -48,13 +48,13 @@ finish_length number n [] = refl
 finish_length number zero (x ∷ ps) = refl
 finish_length number (suc n) (x ∷ ps) = ap suc (finish_length number n ps)
 
-pub finish_done : (number n : ℕ) (ps : List Place) (p : Place) → slice_get ps n ≡ Some p → is_open p.finished ≡ true → done (finish number n ps) ≡ suc (done ps)
-finish_done number n [] p e opened = absurd (none_some e)
-finish_done number zero (x ∷ ps) p e opened =
-    done_cons (ended number x) ps
-    ∙ sym (ap suc (done_cons x ps ∙ ap (λ b. done_by b (done ps)) (ap (λ (q : Place). is_open q.finished) (some_same e) ∙ opened)))
-finish_done number (suc n) (x ∷ ps) p e opened =
-    done_cons x (finish number n ps) ∙ ap (done_by (is_open x.finished)) (finish_done number n ps p e opened) ∙ go (is_open x.finished) ∙ sym (ap suc (done_cons x ps))
+pub finish_done : (number n : ℕ) (ps : List Place) (p : Place) → slice_get ps n ≡ Some p → is_open p.rank ≡ true → done (finish number n ps) ≡ suc (done ps)
+finish_done number n [] p e queued = absurd (none_some e)
+finish_done number zero (x ∷ ps) p e queued =
+    done_cons (finished_place number x) ps
+    ∙ sym (ap suc (done_cons x ps ∙ ap (λ b. done_by b (done ps)) (ap (λ (q : Place). is_open q.rank) (some_same e) ∙ queued)))
+finish_done number (suc n) (x ∷ ps) p e queued =
+    done_cons x (finish number n ps) ∙ ap (done_by (is_open x.rank)) (finish_done number n ps p e queued) ∙ go (is_open x.rank) ∙ sym (ap suc (done_cons x ps))
   where
     go : (b : Bool) → done_by b (suc (done ps)) ≡ suc (done_by b (done ps))
     go true = refl

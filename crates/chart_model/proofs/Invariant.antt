@@ -9,7 +9,7 @@ use Rattle.chart_model.specs.Origins.{ByWord, ByEmpty, Begins, Joined, AtPlace}
 use Rattle.chart_model.specs.declared.edge.Edge.{Edge}
 use Rattle.chart_model.specs.declared.place.Arrival.{Arrival}
 use Rattle.chart_model.specs.declared.place.Place.{Place}
-use Rattle.chart_model.specs.declared.place.Standing.{Standing}
+use Rattle.chart_model.specs.declared.place.Entry.{Entry}
 use Rattle.chart_model.proofs.AtMost.{AtMost}
 use Rattle.chart_model.proofs.Members.{In, nth_in}
 use Rattle.chart_model.proofs.Derivations.{weighs_code}
@@ -25,13 +25,13 @@ pub record Inv (t : Task) (c : Chart) : Type 0 where
   -- no edge has two places
   pub distinct : apart c.places
   -- no finished edge is heavier than an open one
-  pub ordered : (p q : Place) → In p c.places → In q c.places → is_open p.finished ≡ false → is_open q.finished ≡ true →
+  pub ordered : (p q : Place) → In p c.places → In q c.places → is_open p.rank ≡ false → is_open q.rank ≡ true →
       AtMost t.weights p.weight q.weight
   -- all that follows from words, empty rules and finished edges is answered
   pub words : (n : ℕ) (e : Edge) (v : ℕ) → ByWord t n e v → Answered t.weights c e v
   pub empties : (n : ℕ) (e : Edge) (v : ℕ) → ByEmpty t n e v → Answered t.weights c e v
-  pub firsts : (q : Standing) → AtPlace c.places q → (n : ℕ) (e : Edge) (v : ℕ) → Begins t q n e v → Answered t.weights c e v
-  pub nexts : (p q : Standing) → AtPlace c.places p → AtPlace c.places q → (e : Edge) (v : ℕ) → Joined t p q e v → Answered t.weights c e v
+  pub firsts : (q : Entry) → AtPlace c.places q → (n : ℕ) (e : Edge) (v : ℕ) → Begins t q n e v → Answered t.weights c e v
+  pub nexts : (p q : Entry) → AtPlace c.places p → AtPlace c.places q → (e : Edge) (v : ℕ) → Joined t p q e v → Answered t.weights c e v
   -- what a full chart refused has a derivation and no place
   pub refused : Refused t c
 
@@ -50,8 +50,8 @@ brought_weighs t a p b d = subst₂ (Weighs t) (sym b.1) (sym b.2) d
 
 module _ (t : Task) (s : Sound t) (capacity : ℕ) where
   opens_weighs : (a : Arrival) → Opens t a → Weighs t a.edge a.weight
-  opens_weighs a (inl (n, by, named)) = word_weighs t s n a.edge a.weight by
-  opens_weighs a (inr (n, by, named)) = empty_weighs t s n a.edge a.weight by
+  opens_weighs a (inl (n, by, origin)) = word_weighs t s n a.edge a.weight by
+  opens_weighs a (inr (n, by, origin)) = empty_weighs t s n a.edge a.weight by
 
   opening_weighs : (a : Arrival) → In a (first_arrivals t) → Weighs t a.edge a.weight
   opening_weighs a i = opens_weighs a (opening_from t a i)
@@ -63,11 +63,11 @@ module _ (t : Task) (s : Sound t) (capacity : ℕ) where
   opening_answered a i =
       arrive_all_answers capacity t.weights s.weighing (first_arrivals t) opening_code blank (λ p j. absurd j) a i (λ p j _. absurd j)
 
-  none_finished : (p : Place) → In p (opened t capacity).places → is_open p.finished ≡ false → ⊥
-  none_finished p i shut = arrive_all_finished capacity t.weights.lighter (first_arrivals t) blank p i shut
+  none_finished : (p : Place) → In p (opened t capacity).places → is_open p.rank ≡ false → ⊥
+  none_finished p i closed = arrive_all_finished capacity t.weights.lighter (first_arrivals t) blank p i closed
 
-  none_standing : (q : Standing) → AtPlace (opened t capacity).places q → ⊥
-  none_standing q at = none_finished at.place (nth_in (opened t capacity).places q.at at.place at.there) at.shut
+  none_entry : (q : Entry) → AtPlace (opened t capacity).places q → ⊥
+  none_entry q at = none_finished at.place (nth_in (opened t capacity).places q.at at.place at.there) at.closed
 
   opening_sound : (p : Place) → ⊥ ⊎ ((a : Arrival) × In a (first_arrivals t) × Brought a p) → Weighs t p.edge p.weight
   opening_sound p (inl j) = absurd j
@@ -78,10 +78,10 @@ module _ (t : Task) (s : Sound t) (capacity : ℕ) where
       record {
         sound = λ p i. opening_sound p (arrive_all_from capacity t.weights.lighter (first_arrivals t) blank p i);
         distinct = arrive_all_apart capacity t.weights.lighter (first_arrivals t) blank tt;
-        ordered = λ p q i j shut _. absurd (none_finished p i shut);
+        ordered = λ p q i j closed _. absurd (none_finished p i closed);
         words = λ n e v w. brings_answered t (opened t capacity) (first_arrivals t) opening_answered e v (opening_words t n e v w);
         empties = λ n e v w. brings_answered t (opened t capacity) (first_arrivals t) opening_answered e v (opening_empties t n e v w);
-        firsts = λ q at _ _ _ _. absurd (none_standing q at);
-        nexts = λ p q at _ _ _ _. absurd (none_standing p at);
+        firsts = λ q at _ _ _ _. absurd (none_entry q at);
+        nexts = λ p q at _ _ _ _. absurd (none_entry p at);
         refused = arrive_all_refused capacity t.weights.lighter t (first_arrivals t) (λ a i. (opening_weighs a i).0) blank (λ f. absurd (true≢false (sym f)));
       }

@@ -6,7 +6,7 @@ use Rattle.std.proofs.lemmas.Map.Keys.{IsDistinct-cons}
 use Rattle.chart_model.specs.Task.{Task, Sound}
 use Rattle.chart_model.specs.Derivation.{Derives, weight_of}
 use Rattle.chart_model.specs.Plain.{Chart, stopped, carried, holds, same_edge}
-use Rattle.chart_model.specs.Stands.{Stands, Weighs, NoneLighter, Settled, Over, Fits, LawOfTheLightest}
+use Rattle.chart_model.specs.Stands.{Stands, Weighs, NoneLighter, Complete, EdgesExceed, Fits, LawOfTheLightest}
 use Rattle.chart_model.specs.declared.edge.Edge.{Edge}
 use Rattle.chart_model.specs.declared.place.Place.{Place}
 use Rattle.std.proofs.lemmas.Bool.{true≢false, or_parts}
@@ -15,11 +15,11 @@ use Rattle.chart_model.proofs.Edges.{same_edge_back}
 use Rattle.chart_model.proofs.Derivations.{lies_within}
 use Rattle.chart_model.proofs.Placing.{apart}
 use Rattle.chart_model.proofs.Invariant.{Inv}
-use Rattle.chart_model.proofs.Stepping.{inv_reached, reached_steps}
+use Rattle.chart_model.proofs.Stepping.{inv_reachable, reachable_steps}
 use Rattle.chart_model.proofs.Claims.{Done, Late, Claim, claim_edge, late_beyond}
 use Rattle.chart_model.proofs.Carried.{in_holds, carried_from, carried_of}
 use Rattle.chart_model.proofs.Pigeonhole.{pigeonhole}
-use Rattle.chart_model.proofs.Stopping.{Shut, fits_opened, fits_step, stopped_means, stops}
+use Rattle.chart_model.proofs.Stopping.{Closed, fits_opened, fits_step, stopped_means, stops}
 
 -- THE FINISHED EDGES
 
@@ -33,7 +33,7 @@ module _ (t : Task) (s : Sound t) (c : Chart) (inv : Inv t c) where
       subst (λ u. t.weights.lighter v u ≡ false) p.4 (late_beyond t s c inv v late p.0 p.1 p.3).2
 
   pub stands : Stands t c
-  stands = record { derived = derives; least = least_of; in_order = later }
+  stands = record { derived = derives; least = least_of; best_first = later }
     where
       derives : (e : Edge) (w : ℕ) → carried e c.places ≡ Some w → Weighs t e w
       derives e w h =
@@ -79,8 +79,8 @@ edges_derived t [] all = tt
 edges_derived t (p ∷ ps) all = (all p (inl refl), edges_derived t ps (λ q i. all q (inr i)))
 
 -- a full chart has shown more edges to have derivations than it has places
-pub full_over : (t : Task) (c : Chart) → Inv t c → (capacity : ℕ) → capacity ≤ length c.places → c.full ≡ true → Over t capacity
-full_over t c inv capacity at_capacity f =
+pub exceeds_if_full : (t : Task) (c : Chart) → Inv t c → (capacity : ℕ) → capacity ≤ length c.places → c.full ≡ true → EdgesExceed t capacity
+exceeds_if_full t c inv capacity at_capacity f =
     let (e, d, absent) = inv.refused f in
     let as_many : length (edges c.places) ≡ length c.places = edges_length c.places in (
       e ∷ edges c.places,
@@ -89,19 +89,19 @@ full_over t c inv capacity at_capacity f =
       omega arith,
     )
 
-module _ (t : Task) (s : Sound t) (c : Chart) (inv : Inv t c) (quiet : (c.full ≡ true) ⊎ Shut c) where
+module _ (t : Task) (s : Sound t) (c : Chart) (inv : Inv t c) (quiet : (c.full ≡ true) ⊎ Closed c) where
   pub every_finished : c.full ≡ false → (e : Edge) → Derives t e → (w : ℕ) × (carried e c.places ≡ Some w)
   every_finished f e d = go quiet (claim_edge t s c inv e d)
     where
-      go : (c.full ≡ true) ⊎ Shut c → Claim t c e (weight_of t e d) → (w : ℕ) × (carried e c.places ≡ Some w)
+      go : (c.full ≡ true) ⊎ Closed c → Claim t c e (weight_of t e d) → (w : ℕ) × (carried e c.places ≡ Some w)
       go q (inl g) = (g.0.weight, done_carried t s c inv e (weight_of t e d) g)
       go (inl full) (inr late) = absurd (true≢false (sym full ∙ f))
-      go (inr shut) (inr (inl g)) = absurd (true≢false (sym g.2 ∙ shut g.0 g.1))
-      go (inr shut) (inr (inr g)) = absurd (true≢false (sym g.0 ∙ f))
+      go (inr closed) (inr (inl g)) = absurd (true≢false (sym g.2 ∙ closed g.0 g.1))
+      go (inr closed) (inr (inr g)) = absurd (true≢false (sym g.0 ∙ f))
 
   -- where more edges have derivations than a chart has places, it is full
-  pub over_full : (capacity : ℕ) → length c.places ≤ capacity → Over t capacity → c.full ≡ true
-  over_full capacity within (es, distinct, derived, over) = go c.full refl
+  pub full_if_exceeds : (capacity : ℕ) → length c.places ≤ capacity → EdgesExceed t capacity → c.full ≡ true
+  full_if_exceeds capacity within (es, distinct, derived, exceeds) = go c.full refl
     where
       held : c.full ≡ false → (f : Edge) (n : ℕ) → slice_get es n ≡ Some f → holds f c.places ≡ true
       held f e n at =
@@ -115,23 +115,23 @@ module _ (t : Task) (s : Sound t) (c : Chart) (inv : Inv t c) (quiet : (c.full �
           let few : length es ≤ length c.places = pigeonhole es c.places distinct (held f) in
           absurd (omega arith)
 
-pub settled_chart : (t : Task) → Sound t → (capacity : ℕ) (c : Chart) → Inv t c → Fits capacity c → stopped t c ≡ true → Settled t capacity c
-settled_chart t s capacity c inv fits h =
+pub complete_chart : (t : Task) → Sound t → (capacity : ℕ) (c : Chart) → Inv t c → Fits capacity c → stopped t c ≡ true → Complete t capacity c
+complete_chart t s capacity c inv fits h =
     let quiet = stopped_means t s c inv h in
     record {
-      full_only_over = λ f. full_over t c inv capacity (fits.taken f) f;
-      over_only_full = over_full t s c inv quiet capacity fits.within;
+      full_exceeds = λ f. exceeds_if_full t c inv capacity (fits.taken f) f;
+      exceeding_full = full_if_exceeds t s c inv quiet capacity fits.within;
       all_finished = every_finished t s c inv quiet;
     }
 
 pub law_of_the_lightest : (t : Task) → Sound t → LawOfTheLightest t
 law_of_the_lightest t s =
     record {
-      stands = λ c reached. stands t s c (inv_reached t s reached);
-      is_settled = λ capacity c rests. settled_chart t s capacity c (inv_reached t s rests.reached) rests.fits rests.stopped;
+      stands = λ c reachable. stands t s c (inv_reachable t s reachable);
+      complete = λ capacity c halted. complete_chart t s capacity c (inv_reachable t s halted.reachable) halted.fits halted.stopped;
       opening_fits = fits_opened t;
-      step_fits = λ capacity c reached. fits_step t s capacity c (inv_reached t s reached);
-      ends = λ capacity c reached. stops t s capacity c (inv_reached t s reached);
-      settling = λ capacity c. reached_steps t capacity capacity c;
+      step_fits = λ capacity c reachable. fits_step t s capacity c (inv_reachable t s reachable);
+      ends = λ capacity c reachable. stops t s capacity c (inv_reachable t s reachable);
+      settling = λ capacity c. reachable_steps t capacity capacity c;
       within = lies_within t s;
     }

@@ -19,7 +19,7 @@ pub mod Pigeonhole
 pub mod Stopping
 pub mod Law
 pub mod Numbering
-pub mod Grounding
+pub mod Founding
 pub mod Rerunning
 pub mod Readings
 pub mod Lists

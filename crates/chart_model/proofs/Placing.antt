@@ -13,12 +13,12 @@ use Rattle.chart_model.proofs.Edges.{same_edge_true, same_edge_from, same_edge_b
 use Rattle.chart_model.proofs.Done.{done_by, done_cons}
 
 -- the edge has a place, and is no heavier there
-abbrev pub Reaches : Weights → List Place → Edge → ℕ → Type 0
-Reaches ws ps e v = (p : Place) × In p ps × (p.edge ≡ e) × AtMost ws p.weight v
+abbrev pub Attains : Weights → List Place → Edge → ℕ → Type 0
+Attains ws ps e v = (p : Place) × In p ps × (p.edge ≡ e) × AtMost ws p.weight v
 
 -- no finished edge is heavier
 abbrev pub Beyond : Weights → List Place → ℕ → Type 0
-Beyond ws ps v = (p : Place) → In p ps → is_open p.finished ≡ false → AtMost ws p.weight v
+Beyond ws ps v = (p : Place) → In p ps → is_open p.rank ≡ false → AtMost ws p.weight v
 
 -- the places hold different edges
 abbrev pub apart : List Place → Type 0
@@ -27,15 +27,15 @@ apart (p ∷ ps) = (holds p.edge ps ≡ false) × apart ps
 
 -- the two ways of improving a place
 pub improved_cases : (lighter : ℕ → ℕ → Bool) (a : Arrival) (q : Place) (Q : Place → Type 0) →
-    (is_open q.finished ≡ true → lighter a.weight q.weight ≡ true →
+    (is_open q.rank ≡ true → lighter a.weight q.weight ≡ true →
     Q (lightened a q)) →
-    ((is_open q.finished && lighter a.weight q.weight) ≡ false → Q q) →
+    ((is_open q.rank && lighter a.weight q.weight) ≡ false → Q q) →
     Q (improved lighter a q)
-improved_cases lighter a q Q better same = go (is_open q.finished && lighter a.weight q.weight) refl
+improved_cases lighter a q Q better same = go (is_open q.rank && lighter a.weight q.weight) refl
   where
-    go : (b : Bool) → (is_open q.finished && lighter a.weight q.weight) ≡ b →
+    go : (b : Bool) → (is_open q.rank && lighter a.weight q.weight) ≡ b →
         Q (elim b [ true ↦ lightened a q | false ↦ q ])
-    go true h = let both = and_parts (is_open q.finished) (lighter a.weight q.weight) h in better both.0 both.1
+    go true h = let both = and_parts (is_open q.rank) (lighter a.weight q.weight) h in better both.0 both.1
     go false h = same h
 
 -- the two ways of going on past a place
@@ -51,7 +51,7 @@ placed_cases lighter a q ps Q met passed = go (same_edge q.edge a.edge) refl
 
 -- the place is what the arrival left
 abbrev pub Brought : Arrival → Place → Type 0
-Brought a p = (is_open p.finished ≡ true) × (p.edge ≡ a.edge) × (p.weight ≡ a.weight) × (p.origin ≡ a.origin)
+Brought a p = (is_open p.rank ≡ true) × (p.edge ≡ a.edge) × (p.weight ≡ a.weight) × (p.origin ≡ a.origin)
 
 pub placed_from : (lighter : ℕ → ℕ → Bool) (a : Arrival) (ps : List Place) (p : Place) → In p (placed lighter a ps) → In p ps ⊎ Brought a p
 placed_from lighter a [] p (inl e) = inr (subst (Brought a) e (refl, refl, refl, refl))
@@ -65,7 +65,7 @@ placed_from lighter a (q ∷ ps) p i =
 
     at : q.edge ≡ a.edge → improved lighter a q ≡ p → In p (q ∷ ps) ⊎ Brought a p
     at same = improved_cases lighter a q (λ r. r ≡ p → In p (q ∷ ps) ⊎ Brought a p)
-        (λ opened _ e. inr (subst (Brought a) e (opened, same, refl, refl))) (λ _ e. inl (inl e))
+        (λ queued _ e. inr (subst (Brought a) e (queued, same, refl, refl))) (λ _ e. inl (inl e))
 
     met : q.edge ≡ a.edge → In p (improved lighter a q ∷ ps) → In p (q ∷ ps) ⊎ Brought a p
     met same (inl e) = at same e
@@ -73,20 +73,20 @@ placed_from lighter a (q ∷ ps) p i =
 
 module _ (ws : Weights) (law : Lawful ws) (a : Arrival) (code : Code a.weight) where
   -- what an edge has reached it keeps
-  pub placed_keeps : (ps : List Place) (e : Edge) (v : ℕ) → Reaches ws ps e v → Reaches ws (placed ws.lighter a ps) e v
+  pub placed_keeps : (ps : List Place) (e : Edge) (v : ℕ) → Attains ws ps e v → Attains ws (placed ws.lighter a ps) e v
   placed_keeps [] e v r = absurd r.1
   placed_keeps (q ∷ ps) e v r =
-      placed_cases ws.lighter a q ps (λ qs. Reaches ws qs e v) (λ _. met r.1) (λ _. passed (placed_keeps ps e v) r.1)
+      placed_cases ws.lighter a q ps (λ qs. Attains ws qs e v) (λ _. met r.1) (λ _. passed (placed_keeps ps e v) r.1)
     where
-      passed : (Reaches ws ps e v → Reaches ws (placed ws.lighter a ps) e v) → In r.0 (q ∷ ps) → Reaches ws (q ∷ placed ws.lighter a ps) e v
+      passed : (Attains ws ps e v → Attains ws (placed ws.lighter a ps) e v) → In r.0 (q ∷ ps) → Attains ws (q ∷ placed ws.lighter a ps) e v
       passed after (inl same) = (r.0, inl same, r.2, r.3)
       passed after (inr i) = let s = after (r.0, i, r.2, r.3) in (s.0, inr s.1, s.2, s.3)
 
-      met : In r.0 (q ∷ ps) → Reaches ws (improved ws.lighter a q ∷ ps) e v
+      met : In r.0 (q ∷ ps) → Attains ws (improved ws.lighter a q ∷ ps) e v
       met (inl same) =
           let edge_here : q.edge ≡ e = ap (λ (p : Place). p.edge) same ∙ r.2 in
           let at_most : AtMost ws q.weight v = subst (λ (p : Place). AtMost ws p.weight v) (sym same) r.3 in
-          improved_cases ws.lighter a q (λ p. Reaches ws (p ∷ ps) e v)
+          improved_cases ws.lighter a q (λ p. Attains ws (p ∷ ps) e v)
           (λ _ lt. (
             lightened a q,
             inl refl,
@@ -97,37 +97,37 @@ module _ (ws : Weights) (law : Lawful ws) (a : Arrival) (code : Code a.weight) w
       met (inr i) = (r.0, inr i, r.2, r.3)
 
   -- the arrival's edge is as light as the arrival, unless it was finished heavier
-  pub placed_reaches : (ps : List Place) → ((p : Place) → In p ps → Code p.weight) → Beyond ws ps a.weight →
-      Reaches ws (placed ws.lighter a ps) a.edge a.weight
-  placed_reaches [] codes beyond = (fresh a, inl refl, refl, at_most_refl ws law a.weight code)
-  placed_reaches (q ∷ ps) codes beyond =
-      placed_cases ws.lighter a q ps (λ qs. Reaches ws qs a.edge a.weight) met
-      (λ _. passed (placed_reaches ps (λ p i. codes p (inr i)) (λ p i. beyond p (inr i))))
+  pub placed_attains : (ps : List Place) → ((p : Place) → In p ps → Code p.weight) → Beyond ws ps a.weight →
+      Attains ws (placed ws.lighter a ps) a.edge a.weight
+  placed_attains [] codes beyond = (fresh a, inl refl, refl, at_most_refl ws law a.weight code)
+  placed_attains (q ∷ ps) codes beyond =
+      placed_cases ws.lighter a q ps (λ qs. Attains ws qs a.edge a.weight) met
+      (λ _. passed (placed_attains ps (λ p i. codes p (inr i)) (λ p i. beyond p (inr i))))
     where
-      passed : Reaches ws (placed ws.lighter a ps) a.edge a.weight → Reaches ws (q ∷ placed ws.lighter a ps) a.edge a.weight
+      passed : Attains ws (placed ws.lighter a ps) a.edge a.weight → Attains ws (q ∷ placed ws.lighter a ps) a.edge a.weight
       passed s = (s.0, inr s.1, s.2, s.3)
 
-      kept : (is_open q.finished ≡ false) ⊎ (ws.lighter a.weight q.weight ≡ false) → AtMost ws q.weight a.weight
-      kept (inl shut) = beyond q (inl refl) shut
+      kept : (is_open q.rank ≡ false) ⊎ (ws.lighter a.weight q.weight ≡ false) → AtMost ws q.weight a.weight
+      kept (inl closed) = beyond q (inl refl) closed
       kept (inr heavy) = (codes q (inl refl), code, heavy)
 
-      met : q.edge ≡ a.edge → Reaches ws (improved ws.lighter a q ∷ ps) a.edge a.weight
+      met : q.edge ≡ a.edge → Attains ws (improved ws.lighter a q ∷ ps) a.edge a.weight
       met same =
-          improved_cases ws.lighter a q (λ p. Reaches ws (p ∷ ps) a.edge a.weight)
+          improved_cases ws.lighter a q (λ p. Attains ws (p ∷ ps) a.edge a.weight)
           (λ _ _. (
             lightened a q,
             inl refl,
             same,
             at_most_refl ws law a.weight code,
           ))
-          (λ h. (q, inl refl, same, kept (and_cases (is_open q.finished) (ws.lighter a.weight q.weight) h)))
+          (λ h. (q, inl refl, same, kept (and_cases (is_open q.rank) (ws.lighter a.weight q.weight) h)))
 
 module _ (lighter : ℕ → ℕ → Bool) (a : Arrival) where
   improved_edge : (q : Place) → (improved lighter a q).edge ≡ q.edge
   improved_edge q = improved_cases lighter a q (λ p. p.edge ≡ q.edge) (λ _ _. refl) (λ _. refl)
 
-  improved_open : (q : Place) → is_open (improved lighter a q).finished ≡ is_open q.finished
-  improved_open q = improved_cases lighter a q (λ p. is_open p.finished ≡ is_open q.finished) (λ _ _. refl) (λ _. refl)
+  improved_open : (q : Place) → is_open (improved lighter a q).rank ≡ is_open q.rank
+  improved_open q = improved_cases lighter a q (λ p. is_open p.rank ≡ is_open q.rank) (λ _ _. refl) (λ _. refl)
 
   pub placed_holds : (ps : List Place) (e : Edge) → holds e ps ≡ false → same_edge a.edge e ≡ false → holds e (placed lighter a ps) ≡ false
   placed_holds [] e h other = or_from (same_edge a.edge e) false other refl
@@ -149,7 +149,7 @@ module _ (lighter : ℕ → ℕ → Bool) (a : Arrival) where
   placed_done (q ∷ ps) =
       placed_cases lighter a q ps (λ qs. done qs ≡ done (q ∷ ps))
       (λ _. done_cons (improved lighter a q) ps ∙ ap (λ b. done_by b (done ps)) (improved_open q) ∙ sym (done_cons q ps))
-      (λ _. done_cons q (placed lighter a ps) ∙ ap (done_by (is_open q.finished)) (placed_done ps) ∙ sym (done_cons q ps))
+      (λ _. done_cons q (placed lighter a ps) ∙ ap (done_by (is_open q.rank)) (placed_done ps) ∙ sym (done_cons q ps))
 
   pub placed_length : (ps : List Place) → length (placed lighter a ps) ≤ suc (length ps)
   placed_length [] = omega arith

@@ -6,13 +6,13 @@ use Rattle.std.proofs.Props.{props}
 use Rattle.std.proofs.lemmas.Bool.{true≢false, ltb-true, lt-ltb, le-ltb}
 use Rattle.chart_model.specs.Task.{Task}
 use Rattle.chart_model.specs.Plain.{Chart, holds, placed, arrive, arrive_all, blank, first_arrivals, opened, lightest_open, finishing, arrivals, completed, step, steps}
-use Rattle.chart_model.specs.Stands.{Reached, Fits, by_opening, by_step}
+use Rattle.chart_model.specs.Stands.{Reachable, Fits, by_opening, by_step}
 use Rattle.chart_model.specs.declared.place.Arrival.{Arrival}
-use Rattle.chart_model.specs.declared.place.Standing.{Standing}
+use Rattle.chart_model.specs.declared.place.Entry.{Entry}
 use Rattle.chart_model.proofs.Placing.{placed_new}
 use Rattle.chart_model.proofs.Arriving.{arrive_all_count, arrive_all_grows, arrive_all_full}
 use Rattle.chart_model.proofs.Finishing.{finish_length}
-use Rattle.chart_model.proofs.Stepping.{reached_steps}
+use Rattle.chart_model.proofs.Stepping.{reachable_steps}
 
 -- ARRIVALS, BY THE ROOM THAT THERE IS
 
@@ -81,7 +81,7 @@ module _ (lighter : ℕ → ℕ → Bool) where
 -- STEPS, BY THE ROOM THAT THERE IS
 
 module _ (t : Task) where
-  abbrev idle_or : ℕ → Chart → Bool → Option Standing → Chart
+  abbrev idle_or : ℕ → Chart → Bool → Option Entry → Chart
   idle_or k c f o = elim f as (λ _. Chart) [ true ↦ c | false ↦ elim o as (λ _. Chart) [ None ↦ c | Some s ↦ completed t k c s ] ]
 
   full_step : (k : ℕ) (c : Chart) → c.full ≡ true → step t k c ≡ c
@@ -103,7 +103,7 @@ module _ (t : Task) where
   widen_step : (k m : ℕ) → k ≤ m → (c : Chart) → (step t k c).full ≡ false → step t m c ≡ step t k c
   widen_step k m more c = go c.full (lightest_open t.weights.lighter c.places)
     where
-      go : (f : Bool) (o : Option Standing) → (idle_or k c f o).full ≡ false → idle_or m c f o ≡ idle_or k c f o
+      go : (f : Bool) (o : Option Entry) → (idle_or k c f o).full ≡ false → idle_or m c f o ≡ idle_or k c f o
       go true o room = refl
       go false None room = refl
       go false (Some s) room = widen t.weights.lighter k m more (arrivals t s (finishing c s.at).places) (finishing c s.at) room
@@ -138,7 +138,7 @@ module _ (t : Task) where
       sym (narrow t.weights.lighter k (length (opened t k).places) (first_arrivals t) blank refl)
       ∙ ap (run (length (opened t k).places)) (sym (arrive_all_count k t.weights.lighter (first_arrivals t) blank))
 
-  module _ (k : ℕ) (b : Chart) (room : b.full ≡ false) (s : Standing) (found : lightest_open t.weights.lighter b.places ≡ Some s) where
+  module _ (k : ℕ) (b : Chart) (room : b.full ≡ false) (s : Entry) (found : lightest_open t.weights.lighter b.places ≡ Some s) where
     abbrev brought : List Arrival
     brought = arrivals t s (finishing b s.at).places
 
@@ -162,29 +162,29 @@ module _ (t : Task) where
   again_step : (k : ℕ) (b : Chart) → b ≡ again b → step t k b ≡ again (step t k b)
   again_step k b so_far = go b.full refl (lightest_open t.weights.lighter b.places) refl
     where
-      go : (f : Bool) → b.full ≡ f → (o : Option Standing) → lightest_open t.weights.lighter b.places ≡ o → idle_or k b f o ≡ again (idle_or k b f o)
+      go : (f : Bool) → b.full ≡ f → (o : Option Entry) → lightest_open t.weights.lighter b.places ≡ o → idle_or k b f o ≡ again (idle_or k b f o)
       go true full o found = so_far
       go false room None found = so_far
       go false room (Some s) found = again_completed k b room s found so_far
 
-  reached_again : {c : Chart} → Reached t c → c ≡ again c
-  reached_again (by_opening k) = again_opened k
-  reached_again (by_step k {c} before) = again_step k c (reached_again before)
+  reachable_again : {c : Chart} → Reachable t c → c ≡ again c
+  reachable_again (by_opening k) = again_opened k
+  reachable_again (by_step k {c} before) = again_step k c (reachable_again before)
 
   chart_set : IsSet Chart
   chart_set = hlevel props
 
-  pub how_reached : (c : Chart) → ∥ Reached t c ∥₁ → Reached t c
-  how_reached c reached =
-      subst (Reached t) (sym (∥∥₁_elim reached (chart_set c (again c)) reached_again))
-      (reached_steps t (length c.places) c.finished (opened t (length c.places)) (by_opening (length c.places)))
+  pub how_reachable : (c : Chart) → ∥ Reachable t c ∥₁ → Reachable t c
+  how_reachable c reachable =
+      subst (Reachable t) (sym (∥∥₁_elim reachable (chart_set c (again c)) reachable_again))
+      (reachable_steps t (length c.places) c.finished (opened t (length c.places)) (by_opening (length c.places)))
 
   -- with room that it fits, in as many steps
-  pub by_room : (capacity : ℕ) (c : Chart) → Reached t c → Fits capacity c → c ≡ run capacity c.finished
-  by_room capacity c reached fits = go c.full refl
+  pub by_room : (capacity : ℕ) (c : Chart) → Reachable t c → Fits capacity c → c ≡ run capacity c.finished
+  by_room capacity c reachable fits = go c.full refl
     where
       here : c ≡ again c
-      here = reached_again reached
+      here = reachable_again reachable
 
       go : (f : Bool) → c.full ≡ f → c ≡ run capacity c.finished
       go true full =

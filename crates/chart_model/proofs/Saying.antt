@@ -6,14 +6,14 @@ use Rattle.chart_model.specs.Task.{Task, Sound}
 use Rattle.chart_model.specs.Derivation.{Derives, tree_weight}
 use Rattle.chart_model.specs.Listing.{tree_nodes}
 use Rattle.chart_model.specs.Plain.{Chart, edge_of, is_within, carried, working_answer, missing_number, settled_answer}
-use Rattle.chart_model.specs.Stands.{Carries, Unfinished, Over, Stands, Settled, Reached, Rests, LawOfTheLightest}
-use Rattle.chart_model.specs.Reading.{reading, over, fitting, reading_answer, reading_list}
-use Rattle.chart_model.specs.Saying.{Lies, Tells, WorkingSays, SettledSays, TreeOf, Written, ReadingSays, LawOfAnswers}
+use Rattle.chart_model.specs.Stands.{Carries, Unfinished, EdgesExceed, Stands, Complete, Reachable, Stopped, LawOfTheLightest}
+use Rattle.chart_model.specs.Reading.{reading, overwritten, fitting, reading_answer, reading_list}
+use Rattle.chart_model.specs.Saying.{Lies, QuestionSays, WorkingSays, SettledSays, TreeOf, Written, ReadingSays, LawOfAnswers}
 use Rattle.chart_model.specs.declared.edge.Edge.{Edge}
 use Rattle.chart_model.specs.declared.node.Node.{Node}
 use Rattle.chart_model.specs.declared.phrase.Phrase.{Phrase}
 use Rattle.chart_model.proofs.Law.{law_of_the_lightest}
-use Rattle.chart_model.proofs.Lists.{over_fits, over_short}
+use Rattle.chart_model.proofs.Lists.{overwritten_fits, overwritten_short}
 use Rattle.chart_model.proofs.Readings.{law_of_readings}
 
 -- two numbers of refusals that are one
@@ -49,24 +49,24 @@ module _ (t : Task) (law : LawOfTheLightest t) (c : Chart) (stands : Stands t c)
   finished_within w h = law.within edge (stands.derived edge w h).0
 
   module _ (missing : ℕ) (apart : missing ≡ 7 → ⊥) (answer : Result ℕ ℕ) where
-    tells_by : Way missing answer → Tells t c p answer
-    tells_by (is_outside out e) =
+    question_by : Way missing answer → QuestionSays t c p answer
+    question_by (is_outside out e) =
         record {
-          stretch = (λ _. out, λ _. e);
+          span = (λ _. out, λ _. e);
           finished = λ w. (λ f. absurd cc, λ h. absurd (out (finished_within w h)));
           derived = λ w f. absurd cc;
           least = λ w f. absurd cc;
         }
-    tells_by (is_finished v h e) =
+    question_by (is_finished v h e) =
         record {
-          stretch = (λ f. absurd cc, λ out. absurd (out (finished_within v h)));
+          span = (λ f. absurd cc, λ out. absurd (out (finished_within v h)));
           finished = λ w. (λ f. cc, λ g. cc);
           derived = λ w f. stands.derived edge w cc;
           least = λ w f. stands.least edge w cc;
         }
-    tells_by (is_missing inside none e) =
+    question_by (is_missing inside none e) =
         record {
-          stretch = (λ f. absurd (apart (same_number missing 7 (sym e ∙ f))), λ out. absurd (out inside));
+          span = (λ f. absurd (apart (same_number missing 7 (sym e ∙ f))), λ out. absurd (out inside));
           finished = λ w. (λ f. absurd cc, λ h. absurd cc);
           derived = λ w f. absurd cc;
           least = λ w f. absurd cc;
@@ -94,18 +94,18 @@ module _ (t : Task) (law : LawOfTheLightest t) (c : Chart) (stands : Stands t c)
     never other away apart' (is_finished v h e) f = cc
     never other away apart' (is_missing inside none e) f = apart' (same_number missing other (sym e ∙ f))
 
-  pub working_tells : (r : Result ℕ ℕ) → r ≡ working_answer t c p → WorkingSays t c p r
-  working_tells r h =
+  pub working_question : (r : Result ℕ ℕ) → r ≡ working_answer t c p → WorkingSays t c p r
+  working_question r h =
       let how = subst (Way 8) (sym h) (way 8) in
       record {
-        tells = tells_by 8 (λ e. omega arith) r how;
+        question = question_by 8 (λ e. omega arith) r how;
         not_finished = (missing_only 8 (λ e. omega arith) r how, λ (inside, none). only_missing 8 (λ e. omega arith) r how inside none);
         refusals = refused_so 8 (λ e. omega arith) r how;
       }
 
-  module _ (room : ℕ) (settled : Settled t room c) where
-    pub settled_tells : (r : Result ℕ ℕ) → r ≡ settled_answer t c p → SettledSays t room c p r
-    settled_tells r h = go c.full refl (subst (Way (missing_number c)) (sym h) (way (missing_number c)))
+  module _ (room : ℕ) (settled : Complete t room c) where
+    pub settled_question : (r : Result ℕ ℕ) → r ≡ settled_answer t c p → SettledSays t room c p r
+    settled_question r h = go c.full refl (subst (Way (missing_number c)) (sym h) (way (missing_number c)))
       where
         either : (number : ℕ) {missing : ℕ} → (number ≡ missing → (number ≡ 9) ⊎ (number ≡ 10)) → (number ≡ 7) ⊎ (number ≡ missing) →
             (number ≡ 7) ⊎ ((number ≡ 9) ⊎ (number ≡ 10))
@@ -119,27 +119,27 @@ module _ (t : Task) (law : LawOfTheLightest t) (c : Chart) (stands : Stands t c)
 
         go : (b : Bool) → c.full ≡ b → Way (elim b as (λ _. ℕ) [ true ↦ 10 | false ↦ 9 ]) r → SettledSays t room c p r
         go true f how =
-            let over = settled.full_only_over f in
+            let exceeds = settled.full_exceeds f in
             record {
-              tells = tells_by 10 (λ e. omega arith) r how;
+              question = question_by 10 (λ e. omega arith) r how;
               full = (
-                λ e. let (inside, none) = missing_only 10 (λ e. omega arith) r how e in (inside, none, over),
+                λ e. let (inside, none) = missing_only 10 (λ e. omega arith) r how e in (inside, none, exceeds),
                 λ (inside, none, _). only_missing 10 (λ e. omega arith) r how inside none,
               );
               no_derivation = (
                 λ e. absurd (never 10 (λ e. omega arith) r 9 (λ e. omega arith) (λ e. omega arith) how e),
-                λ (inside, few, _). absurd (few over),
+                λ (inside, few, _). absurd (few exceeds),
               );
               refusals = λ number e. either number (λ f. inr f) (refused_so 10 (λ e. omega arith) r how number e);
             }
         go false f how =
-            let few : Over t room → ⊥ = λ over. let full = settled.over_only_full over in cc in
+            let few : EdgesExceed t room → ⊥ = λ exceeds. let full = settled.exceeding_full exceeds in cc in
             let underived : Unfinished c edge → Derives t edge → ⊥ = λ none d. let (w, h) = settled.all_finished f edge d in cc in
             record {
-              tells = tells_by 9 (λ e. omega arith) r how;
+              question = question_by 9 (λ e. omega arith) r how;
               full = (
                 λ e. absurd (never 9 (λ e. omega arith) r 10 (λ e. omega arith) (λ e. omega arith) how e),
-                λ (inside, none, over). absurd (few over),
+                λ (inside, none, exceeds). absurd (few exceeds),
               );
               no_derivation = (
                 λ e. let (inside, none) = missing_only 9 (λ e. omega arith) r how e in (inside, few, underived none),
@@ -150,30 +150,30 @@ module _ (t : Task) (law : LawOfTheLightest t) (c : Chart) (stands : Stands t c)
 
 -- READINGS
 
-module _ {t : Task} (s : Sound t) (c : Chart) (reached : Reached t c) (p : Phrase) (before : List Node) where
+module _ {t : Task} (s : Sound t) (c : Chart) (reachable : Reachable t c) (p : Phrase) (before : List Node) where
   abbrev ns : List Node
   ns = reading c.places (edge_of p)
 
   -- the listing of a derivation, by whether there is room for it
-  listed : (w : ℕ) → Carries c (edge_of p) w → Written t p before (over ns before) (Ok w) (fitting (length before) ns)
+  listed : (w : ℕ) → Carries c (edge_of p) w → Written t p before (overwritten ns before) (Ok w) (fitting (length before) ns)
   listed w carries = go (leb (length ns) (length before)) refl
     where
       read : (d : TreeOf t p) × (tree_weight d ≡ w) × (tree_nodes d ≡ ns)
-      read = law_of_readings t s c reached p w carries
+      read = law_of_readings t s c reachable p w carries
 
       go : (b : Bool) → leb (length ns) (length before) ≡ b →
-          Written t p before (over ns before) (Ok w) (elim b as (λ _. Result ℕ ℕ) [ true ↦ Ok (length ns) | false ↦ Err 12 ])
+          Written t p before (overwritten ns before) (Ok w) (elim b as (λ _. Result ℕ ℕ) [ true ↦ Ok (length ns) | false ↦ Err 12 ])
       go true h =
           let (d, weight, nodes) = read in
           let fits = leb-true (length ns) (length before) h in
-          (d, weight, (ap length (sym nodes), fits, over_fits ns before fits ∙ ap (λ ms. ms ++ drop (length ns) before) (sym nodes)))
+          (d, weight, (ap length (sym nodes), fits, overwritten_fits ns before fits ∙ ap (λ ms. ms ++ drop (length ns) before) (sym nodes)))
       go false h =
           let (d, weight, nodes) = read in
           let past : length before < length ns = leb-false (length ns) (length before) h in
-          (d, weight, (subst (λ ms. length before < length ms) (sym nodes) past, over_short ns before (omega arith) ∙ ap (take (length before)) (sym nodes)), refl)
+          (d, weight, (subst (λ ms. length before < length ms) (sym nodes) past, overwritten_short ns before (omega arith) ∙ ap (take (length before)) (sym nodes)), refl)
 
   written : (asked : Result ℕ ℕ) → ((w : ℕ) → asked ≡ Ok w → Carries c (edge_of p) w) →
-      Written t p before (elim asked as (λ _. List Node) [ Ok w ↦ over ns before | Err number ↦ before ]) asked
+      Written t p before (elim asked as (λ _. List Node) [ Ok w ↦ overwritten ns before | Err number ↦ before ]) asked
       (elim asked as (λ _. Result ℕ ℕ) [ Ok w ↦ fitting (length before) ns | Err number ↦ Err number ])
   written (Ok w) carries = listed w (carries w refl)
   written (Err number) carries = (refl, refl)
@@ -186,15 +186,15 @@ law_of_answers t s = record { working = works; settled = settles; read = reads }
     law : LawOfTheLightest t
     law = law_of_the_lightest t s
 
-    works : (c : Chart) → Reached t c → (p : Phrase) → WorkingSays t c p (working_answer t c p)
-    works c reached p = working_tells t law c (law.stands c reached) p (working_answer t c p) refl
+    works : (c : Chart) → Reachable t c → (p : Phrase) → WorkingSays t c p (working_answer t c p)
+    works c reachable p = working_question t law c (law.stands c reachable) p (working_answer t c p) refl
 
-    settles : (room : ℕ) (c : Chart) → Rests t room c → (p : Phrase) → SettledSays t room c p (settled_answer t c p)
-    settles room c rests p =
-        settled_tells t law c (law.stands c rests.reached) p room (law.is_settled room c rests) (settled_answer t c p) refl
+    settles : (room : ℕ) (c : Chart) → Stopped t room c → (p : Phrase) → SettledSays t room c p (settled_answer t c p)
+    settles room c halted p =
+        settled_question t law c (law.stands c halted.reachable) p room (law.complete room c halted) (settled_answer t c p) refl
 
-    reads : (room : ℕ) (c : Chart) → Rests t room c → (p : Phrase) (before : List Node) →
+    reads : (room : ℕ) (c : Chart) → Stopped t room c → (p : Phrase) (before : List Node) →
         ReadingSays t room c p before (reading_list t c p before) (reading_answer t c p (length before))
-    reads room c rests p before =
-        let says = settles room c rests p in
-        (settled_answer t c p, says, written s c rests.reached p before (settled_answer t c p) (λ w. (says.tells.finished w).0))
+    reads room c halted p before =
+        let says = settles room c halted p in
+        (settled_answer t c p, says, written s c halted.reachable p before (settled_answer t c p) (λ w. (says.question.finished w).0))

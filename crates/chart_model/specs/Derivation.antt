@@ -8,7 +8,7 @@ use Rattle.chart_model.specs.declared.edge.Edge.{Edge}
 use Rattle.chart_model.specs.declared.edge.Edge.TheVariants.{Passive, Active}
 
 mutual
-  -- `Tree t x i j`: derivations of x over the span [i, j]. A leaf is a word; an inner node is a rule with a `Row` below it.
+  -- `Tree t x i j`: derivations of x over the span [i, j]. A node is a word, without children, or a rule over a `Row`.
   pub data Tree (t : Task) : ℕ → ℕ → ℕ → Type 0 where
     word : (n : ℕ) (w : Word) → slice_get t.words n ≡ Some w → Tree t w.symbol w.from w.to
     rule : (n : ℕ) (r : Rule) {i j : ℕ} → slice_get t.rules n ≡ Some r → Row t r.right i j → Tree t r.left i j

@@ -6,4 +6,4 @@ pub mod Stands
 pub mod Origins
 pub mod Reading
 pub mod Saying
-pub mod Telling
+pub mod Printing

@@ -13,7 +13,7 @@ use Rattle.chart_model.specs.declared.origin.Origin.TheVariants.{Word as FromWor
 use Rattle.chart_model.specs.declared.phrase.Phrase.{Phrase}
 use Rattle.chart_model.specs.declared.place.Place.{Place}
 use Rattle.chart_model.specs.declared.place.Arrival.{Arrival}
-use Rattle.chart_model.specs.declared.place.Standing.{Standing}
+use Rattle.chart_model.specs.declared.place.Entry.{Entry}
 
 -- places in the order of arrival, whether an edge was dropped for want of a place, and the count of finished edges
 pub record Chart : Type 0 where
@@ -29,11 +29,11 @@ same_edge (Active r n i j) (Active s m k l) = r == s && (n == m && (i == k && j 
 
 -- on the agenda: not numbered in the order of finishing yet
 abbrev pub is_open : Option ℕ → Bool
-is_open finished = is_none finished
+is_open rank = is_none rank
 
 -- the count of finished places
 abbrev pub done : List Place → ℕ
-done ps = count_by (λ p. not (is_open p.finished)) ps
+done ps = count_by (λ p. not (is_open p.rank)) ps
 
 -- the place of an edge, from 0
 abbrev pub place_of : Edge → List Place → Option ℕ
@@ -61,7 +61,7 @@ arriving e w o = record { edge = e; weight = w; origin = o }
 
 -- the place of an edge that arrives for the first time
 abbrev pub fresh : Arrival → Place
-fresh a = record { edge = a.edge; weight = a.weight; origin = a.origin; finished = None }
+fresh a = record { edge = a.edge; weight = a.weight; origin = a.origin; rank = None }
 
 -- what stands where no edge is yet
 abbrev pub unused : Place
@@ -72,22 +72,22 @@ abbrev pub lightened : Arrival → Place → Place
 lightened a p = record p { weight = a.weight; origin = a.origin }
 
 -- finished, with this number in the order of finishing
-abbrev pub ended : ℕ → Place → Place
-ended number p = record p { finished = Some number }
+abbrev pub finished_place : ℕ → Place → Place
+finished_place number p = record p { rank = Some number }
 
 -- the entry of place n
-abbrev pub seen : ℕ → Place → Standing
-seen n p = record { at = n; edge = p.edge; weight = p.weight }
+abbrev pub entry : ℕ → Place → Entry
+entry n p = record { at = n; edge = p.edge; weight = p.weight }
 
 -- the same, for a finished place only
-abbrev pub standing : ℕ → Place → Option Standing
-standing n p = elim p.finished [ None ↦ None | Some m ↦ Some (seen n p) ]
+abbrev pub finished_entry : ℕ → Place → Option Entry
+finished_entry n p = elim p.rank [ None ↦ None | Some m ↦ Some (entry n p) ]
 
 -- AN ARRIVAL
 
 -- at its own place: decrease-key if it is open and the arrival lighter, else no change
 abbrev pub improved : (ℕ → ℕ → Bool) → Arrival → Place → Place
-improved lighter a p = elim (is_open p.finished && lighter a.weight p.weight) [ true ↦ lightened a p | false ↦ p ]
+improved lighter a p = elim (is_open p.rank && lighter a.weight p.weight) [ true ↦ lightened a p | false ↦ p ]
 
 -- insert or decrease-key
 abbrev pub placed : (ℕ → ℕ → Bool) → Arrival → List Place → List Place
@@ -138,25 +138,25 @@ opened t capacity = arrive_all capacity t.weights.lighter blank (first_arrivals 
 -- A STEP
 
 -- the lighter of two open edges, the former in a tie
-abbrev pub lighter_of : (ℕ → ℕ → Bool) → Option Standing → Standing → Option Standing
+abbrev pub lighter_of : (ℕ → ℕ → Bool) → Option Entry → Entry → Option Entry
 lighter_of lighter None s = Some s
 lighter_of lighter (Some best) s = elim (lighter s.weight best.weight) [ true ↦ Some s | false ↦ Some best ]
 
 -- the lightest so far, after one place more
-abbrev pub lightest_with : (ℕ → ℕ → Bool) → Option Standing → ℕ × Place → Option Standing
-lightest_with lighter best (n, p) = elim (is_open p.finished) [ true ↦ lighter_of lighter best (seen n p) | false ↦ best ]
+abbrev pub lightest_with : (ℕ → ℕ → Bool) → Option Entry → ℕ × Place → Option Entry
+lightest_with lighter best (n, p) = elim (is_open p.rank) [ true ↦ lighter_of lighter best (entry n p) | false ↦ best ]
 
 -- the head of the agenda; ties go to the place with the lower number
-abbrev pub lightest_open : (ℕ → ℕ → Bool) → List Place → Option Standing
+abbrev pub lightest_open : (ℕ → ℕ → Bool) → List Place → Option Entry
 lightest_open lighter ps = fold (lightest_with lighter) None (enumerate_from 0 ps)
 
 -- place n finished
 abbrev pub finish : ℕ → ℕ → List Place → List Place
-finish number n ps = modified (ended number) n ps
+finish number n ps = modified (finished_place number) n ps
 
 -- the edge of rule n over [i, j], the dot after k symbols: active, or passive once the dot is at the end
-abbrev pub reached : ℕ → Rule → ℕ → ℕ → ℕ → Edge
-reached n r k i j = elim (k == length r.right) [ true ↦ Passive r.left i j | false ↦ Active n k i j ]
+abbrev pub rule_edge : ℕ → Rule → ℕ → ℕ → ℕ → Edge
+rule_edge n r k i j = elim (k == length r.right) [ true ↦ Passive r.left i j | false ↦ Active n k i j ]
 
 -- x follows the dot
 abbrev pub wants : List ℕ → ℕ → ℕ → Bool
@@ -166,35 +166,35 @@ wants right k x = elim (slice_get right k) [ None ↦ false | Some y ↦ nat_eq 
 abbrev pub rule_takes : Weights → ℕ → Rule → ℕ → ℕ → ℕ → ℕ → ℕ → Option Arrival
 rule_takes ws n r b x i j w =
     elim (wants r.right 0 x) [
-      | true ↦ Some (arriving (reached n r 1 i j) (ws.join (ws.weigh r.mark) w) (First n b))
+      | true ↦ Some (arriving (rule_edge n r 1 i j) (ws.join (ws.weigh r.mark) w) (First n b))
       | false ↦ None
     ]
 
 -- the start of rule n with a finished edge, if that is its first child
-abbrev pub rule_brings : Weights → Standing → ℕ → Rule → Option Arrival
+abbrev pub rule_brings : Weights → Entry → ℕ → Rule → Option Arrival
 rule_brings ws s n r = elim s.edge [ Passive x i j ↦ rule_takes ws n r s.at x i j s.weight | Active m k i j ↦ None ]
 
--- fundamental rule: the premises are rule n from h, the dot after k symbols (weight v, place a), and x up to l (w, b)
+-- fundamental rule: the premises are rule n from h, the dot after k symbols (weight u, place a), and x up to l (w, b)
 abbrev pub active_takes : Weights → ℕ → Rule → ℕ → ℕ → ℕ → ℕ → ℕ → ℕ → ℕ → ℕ → Option Arrival
-active_takes ws n r k h a v b x l w =
-    elim (wants r.right k x) [ true ↦ Some (arriving (reached n r (suc k) h l) (ws.join v w) (Next a b)) | false ↦ None ]
+active_takes ws n r k h a u b x l w =
+    elim (wants r.right k x) [ true ↦ Some (arriving (rule_edge n r (suc k) h l) (ws.join u w) (Next a b)) | false ↦ None ]
 
 -- the same for two edges, the first active, the second its passive neighbour
 abbrev pub edge_takes : List Rule → Weights → ℕ → ℕ → Edge → ℕ → ℕ → Edge → Option Arrival
-edge_takes rules ws a v (Passive y i j) b w e = None
-edge_takes rules ws a v (Active n k h g) b w (Active m q i j) = None
-edge_takes rules ws a v (Active n k h g) b w (Passive x i j) =
-    elim (g == i) [ true ↦ elim (slice_get rules n) [ None ↦ None | Some r ↦ active_takes ws n r k h a v b x j w ] | false ↦ None ]
+edge_takes rules ws a u (Passive y i j) b w e = None
+edge_takes rules ws a u (Active n k h g) b w (Active m q i j) = None
+edge_takes rules ws a u (Active n k h g) b w (Passive x i j) =
+    elim (g == i) [ true ↦ elim (slice_get rules n) [ None ↦ None | Some r ↦ active_takes ws n r k h a u b x j w ] | false ↦ None ]
 
-abbrev pub takes : List Rule → Weights → Standing → Standing → Option Arrival
+abbrev pub takes : List Rule → Weights → Entry → Entry → Option Arrival
 takes rules ws p q = edge_takes rules ws p.at p.weight p.edge q.at q.weight q.edge
 
 -- the fundamental rule between a finished edge and that at place n, either of which may be the active one
-abbrev pub place_brings : List Rule → Weights → Standing → ℕ → Place → Option Arrival
-place_brings rules ws s n p = elim (standing n p) [ None ↦ None | Some q ↦ option_or (takes rules ws q s) (takes rules ws s q) ]
+abbrev pub place_brings : List Rule → Weights → Entry → ℕ → Place → Option Arrival
+place_brings rules ws s n p = elim (finished_entry n p) [ None ↦ None | Some q ↦ option_or (takes rules ws q s) (takes rules ws s q) ]
 
 -- the conclusions with a newly finished premise: rule starts by rule, then the fundamental rule by place
-abbrev pub arrivals : Task → Standing → List Place → List Arrival
+abbrev pub arrivals : Task → Entry → List Place → List Arrival
 arrivals t s ps = gathered (rule_brings t.weights s) 0 t.rules ++ gathered (place_brings t.rules t.weights s) 0 ps
 
 -- place n finished, its conclusions still to come
@@ -202,12 +202,12 @@ abbrev pub finishing : Chart → ℕ → Chart
 finishing c n = record { places = finish (suc c.finished) n c.places; full = c.full; finished = suc c.finished }
 
 -- and its conclusions arrived
-abbrev pub completed : Task → ℕ → Chart → Standing → Chart
+abbrev pub completed : Task → ℕ → Chart → Entry → Chart
 completed t capacity c s = let d = finishing c s.at in arrive_all capacity t.weights.lighter d (arrivals t s d.places)
 
 -- the count of finished edges; 10 if the chart is full
-abbrev pub counted : Chart → Result ℕ ℕ
-counted c = elim c.full [ true ↦ Err 10 | false ↦ Ok c.finished ]
+abbrev pub count_unless_full : Chart → Result ℕ ℕ
+count_unless_full c = elim c.full [ true ↦ Err 10 | false ↦ Ok c.finished ]
 
 -- pop the lightest and infer; nothing happens if the chart is full or the agenda empty
 abbrev pub step : Task → ℕ → Chart → Chart
@@ -222,7 +222,7 @@ abbrev pub step_answer : Task → ℕ → Chart → Result ℕ ℕ
 step_answer t capacity c =
     elim c.full [
       | true ↦ Err 10
-      | false ↦ elim (lightest_open t.weights.lighter c.places) [ None ↦ Err 11 | Some s ↦ counted (completed t capacity c s) ]
+      | false ↦ elim (lightest_open t.weights.lighter c.places) [ None ↦ Err 11 | Some s ↦ count_unless_full (completed t capacity c s) ]
     ]
 
 -- opaque: a literal number of steps would unfold in every proof that sees it
@@ -250,7 +250,7 @@ settled t capacity c = steps t capacity capacity c
 abbrev pub carried : Edge → List Place → Option ℕ
 carried e [] = None
 carried e (p ∷ ps) =
-    elim (same_edge p.edge e) [ true ↦ elim (is_open p.finished) [ true ↦ None | false ↦ Some p.weight ] | false ↦ carried e ps ]
+    elim (same_edge p.edge e) [ true ↦ elim (is_open p.rank) [ true ↦ None | false ↦ Some p.weight ] | false ↦ carried e ps ]
 
 -- a phrase as a passive edge
 abbrev pub edge_of : Phrase → Edge

@@ -4,7 +4,7 @@ use Rattle.chart_model.specs.Task.{Task}
 use Rattle.chart_model.specs.Derivation.{Derives, LiesWithin, Tree, tree_weight}
 use Rattle.chart_model.specs.Listing.{tree_nodes}
 use Rattle.chart_model.specs.Plain.{Chart, edge_of, working_answer, settled_answer}
-use Rattle.chart_model.specs.Stands.{Carries, Unfinished, Weighs, NoneLighter, Over, Reached, Rests}
+use Rattle.chart_model.specs.Stands.{Carries, Unfinished, Weighs, NoneLighter, EdgesExceed, Reachable, Stopped}
 use Rattle.chart_model.specs.Reading.{reading_answer, reading_list}
 use Rattle.chart_model.specs.declared.node.Node.{Node}
 use Rattle.chart_model.specs.declared.phrase.Phrase.{Phrase}
@@ -16,9 +16,9 @@ abbrev pub Lies : Task → Phrase → Type 0
 Lies t p = LiesWithin t.last (edge_of p)
 
 -- what any chart's answer to a question says
-pub record Tells (t : Task) (c : Chart) (p : Phrase) (answer : Result ℕ ℕ) : Type 0 where
+pub record QuestionSays (t : Task) (c : Chart) (p : Phrase) (answer : Result ℕ ℕ) : Type 0 where
   -- 7 ⇔ no such span
-  pub stretch : (answer ≡ Err 7) ↔ (Lies t p → ⊥)
+  pub span : (answer ≡ Err 7) ↔ (Lies t p → ⊥)
   -- a weight ⇔ finished at that weight
   pub finished : (w : ℕ) → (answer ≡ Ok w) ↔ Carries c (edge_of p) w
   -- which is attained, and the least
@@ -27,7 +27,7 @@ pub record Tells (t : Task) (c : Chart) (p : Phrase) (answer : Result ℕ ℕ) :
 
 -- what a working chart's answer says besides
 pub record WorkingSays (t : Task) (c : Chart) (p : Phrase) (answer : Result ℕ ℕ) : Type 0 where
-  pub tells : Tells t c p answer
+  pub question : QuestionSays t c p answer
   -- 8 ⇔ in the lattice, and not finished
   pub not_finished : (answer ≡ Err 8) ↔ (Lies t p × Unfinished c (edge_of p))
   -- and no other number
@@ -35,11 +35,11 @@ pub record WorkingSays (t : Task) (c : Chart) (p : Phrase) (answer : Result ℕ 
 
 -- what the answer of a settled chart of this capacity says besides
 pub record SettledSays (t : Task) (capacity : ℕ) (c : Chart) (p : Phrase) (answer : Result ℕ ℕ) : Type 0 where
-  pub tells : Tells t c p answer
+  pub question : QuestionSays t c p answer
   -- 10 ⇔ in the lattice, not finished, and derivable edges exceed the capacity
-  pub full : (answer ≡ Err 10) ↔ (Lies t p × Unfinished c (edge_of p) × Over t capacity)
+  pub full : (answer ≡ Err 10) ↔ (Lies t p × Unfinished c (edge_of p) × EdgesExceed t capacity)
   -- 9 ⇔ in the lattice, not derivable, and derivable edges do not exceed it
-  pub no_derivation : (answer ≡ Err 9) ↔ (Lies t p × (Over t capacity → ⊥) × (Derives t (edge_of p) → ⊥))
+  pub no_derivation : (answer ≡ Err 9) ↔ (Lies t p × (EdgesExceed t capacity → ⊥) × (Derives t (edge_of p) → ⊥))
   -- and no other number
   pub refusals : (number : ℕ) → answer ≡ Err number → (number ≡ 7) ⊎ ((number ≡ 9) ⊎ (number ≡ 10))
 
@@ -70,10 +70,10 @@ ReadingSays t capacity c p before after answer = (asked : Result ℕ ℕ) × Set
 
 -- THE LAW OF ANSWERS: every answer of a reachable chart means what is said above
 pub record LawOfAnswers (t : Task) : Type 0 where
-  pub working : (c : Chart) → Reached t c → (p : Phrase) → WorkingSays t c p (working_answer t c p)
+  pub working : (c : Chart) → Reachable t c → (p : Phrase) → WorkingSays t c p (working_answer t c p)
   -- of a settled chart
-  pub settled : (capacity : ℕ) (c : Chart) → Rests t capacity c → (p : Phrase) →
+  pub settled : (capacity : ℕ) (c : Chart) → Stopped t capacity c → (p : Phrase) →
       SettledSays t capacity c p (settled_answer t c p)
   -- into any list
-  pub read : (capacity : ℕ) (c : Chart) → Rests t capacity c → (p : Phrase) (before : List Node) →
+  pub read : (capacity : ℕ) (c : Chart) → Stopped t capacity c → (p : Phrase) (before : List Node) →
       ReadingSays t capacity c p before (reading_list t c p before) (reading_answer t c p (length before))

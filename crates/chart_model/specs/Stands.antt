@@ -28,24 +28,24 @@ pub record Stands (t : Task) (c : Chart) : Type 0 where
   pub derived : (e : Edge) (w : ℕ) → Carries c e w → Weighs t e w
   pub least : (e : Edge) (w : ℕ) → Carries c e w → NoneLighter t e w
   -- best first: derivations of any other edge weigh at least as much as every finished edge
-  pub in_order : (e f : Edge) (w : ℕ) → Unfinished c e → Carries c f w → NoneLighter t e w
+  pub best_first : (e f : Edge) (w : ℕ) → Unfinished c e → Carries c f w → NoneLighter t e w
 
 -- more than `most` edges are derivable: a list of distinct derivable edges is longer
-abbrev pub Over : Task → ℕ → Type 0
-Over t most = (es : List Edge) × IsDistinct same_edge es × AllByRecursion (Derives t) es × (most < length es)
+abbrev pub EdgesExceed : Task → ℕ → Type 0
+EdgesExceed t most = (es : List Edge) × IsDistinct same_edge es × AllByRecursion (Derives t) es × (most < length es)
 
 -- what a settled chart of this capacity says besides: it is complete, unless derivable edges exceed the capacity
-pub record Settled (t : Task) (capacity : ℕ) (c : Chart) : Type 0 where
+pub record Complete (t : Task) (capacity : ℕ) (c : Chart) : Type 0 where
   -- full if and only if they do
-  pub full_only_over : c.full ≡ true → Over t capacity
-  pub over_only_full : Over t capacity → c.full ≡ true
+  pub full_exceeds : c.full ≡ true → EdgesExceed t capacity
+  pub exceeding_full : EdgesExceed t capacity → c.full ≡ true
   -- completeness: if not full, it has finished whatever is derivable
   pub all_finished : c.full ≡ false → (e : Edge) → Derives t e → (w : ℕ) × Carries c e w
 
--- the reachable charts: openings and what steps make of them; a refused step counts, and each call has its own capacity
-pub data Reached (t : Task) : Chart → Type 0 where
-  by_opening : (capacity : ℕ) → Reached t (opened t capacity)
-  by_step : (capacity : ℕ) {c : Chart} → Reached t c → Reached t (step t capacity c)
+-- the reachable charts: openings and what steps make of them, refused steps included; each call has its own capacity
+pub data Reachable (t : Task) : Chart → Type 0 where
+  by_opening : (capacity : ℕ) → Reachable t (opened t capacity)
+  by_step : (capacity : ℕ) {c : Chart} → Reachable t c → Reachable t (step t capacity c)
 
 -- at most `capacity` places are taken, and all of them if the chart is full
 pub record Fits (capacity : ℕ) (c : Chart) : Type 0 where
@@ -53,23 +53,23 @@ pub record Fits (capacity : ℕ) (c : Chart) : Type 0 where
   pub taken : c.full ≡ true → capacity ≤ length c.places
 
 -- a reachable chart that fits the capacity and at which every step is refused
-pub record Rests (t : Task) (capacity : ℕ) (c : Chart) : Type 0 where
-  pub reached : Reached t c
+pub record Stopped (t : Task) (capacity : ℕ) (c : Chart) : Type 0 where
+  pub reachable : Reachable t c
   pub fits : Fits capacity c
   pub stopped : stopped t c ≡ true
 
 -- THE LAW, of one task; the crate proves it of every sound one
 pub record LawOfTheLightest (t : Task) : Type 0 where
   -- every reachable chart
-  pub stands : (c : Chart) → Reached t c → Stands t c
+  pub stands : (c : Chart) → Reachable t c → Stands t c
   -- every chart at which steps stop, whatever the capacities before, if it fits this one
-  pub is_settled : (capacity : ℕ) (c : Chart) → Rests t capacity c → Settled t capacity c
+  pub complete : (capacity : ℕ) (c : Chart) → Stopped t capacity c → Complete t capacity c
   -- with one capacity at all calls a chart fits it
   pub opening_fits : (capacity : ℕ) → Fits capacity (opened t capacity)
-  pub step_fits : (capacity : ℕ) (c : Chart) → Reached t c → Fits capacity c → Fits capacity (step t capacity c)
-  -- settling terminates: after `capacity` steps there is nothing left to pop
-  pub ends : (capacity : ℕ) (c : Chart) → Reached t c → Fits capacity c → stopped t (settled t capacity c) ≡ true
+  pub step_fits : (capacity : ℕ) (c : Chart) → Reachable t c → Fits capacity c → Fits capacity (step t capacity c)
+  -- settling terminates: after `capacity` steps every further one is refused
+  pub ends : (capacity : ℕ) (c : Chart) → Reachable t c → Fits capacity c → stopped t (settled t capacity c) ≡ true
   -- and stays among the reachable charts
-  pub settling : (capacity : ℕ) (c : Chart) → Reached t c → Reached t (settled t capacity c)
+  pub settling : (capacity : ℕ) (c : Chart) → Reachable t c → Reachable t (settled t capacity c)
   -- derivable edges lie in the lattice
   pub within : (e : Edge) → Derives t e → LiesWithin t.last e

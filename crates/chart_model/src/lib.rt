@@ -4,8 +4,8 @@
 ghost use Rattle.std.specs.Prelude.{◌≡◌, ℕ};
 ghost use Rattle.chart_model.specs.Task.{Task, Sound};
 ghost use Rattle.chart_model.specs.Plain.{Chart, opened, steps};
-ghost use Rattle.chart_model.specs.Stands.{Reached, Fits, LawOfTheLightest};
-ghost use Rattle.chart_model.specs.Origins.{Grounded};
+ghost use Rattle.chart_model.specs.Stands.{Reachable, Fits, LawOfTheLightest};
+ghost use Rattle.chart_model.specs.Origins.{WellFounded};
 ghost use Rattle.chart_model.specs.Reading.{LawOfReadings};
 ghost use Rattle.chart_model.specs.Saying.{LawOfAnswers};
 
@@ -22,7 +22,7 @@ pub fn lightest_law()
 
 /// Origins of every reachable chart name inferences whose premises were finished first.
 pub fn origins_law()
-    ensures { (t : Task) → Sound t → (c : Chart) → Reached t c → Grounded t c }
+    ensures { (t : Task) → Sound t → (c : Chart) → Reachable t c → WellFounded t c }
 {}
 
 /// Origins of every reachable chart spell out a derivation of each finished passive edge, of just its weight.
@@ -37,8 +37,8 @@ pub fn answers_law()
 
 /// How a reachable chart came about can be found from the chart itself: by as many steps as it has finished edges, all with
 /// a capacity that it fits.
-pub fn reaching_law()
-    ensures again { (t : Task) (c : Chart) → ∥ Reached t c ∥₁ → Reached t c }
-    ensures room { (t : Task) (capacity : ℕ) (c : Chart) → Reached t c → Fits capacity c →
+pub fn reachable_law()
+    ensures again { (t : Task) (c : Chart) → ∥ Reachable t c ∥₁ → Reachable t c }
+    ensures room { (t : Task) (capacity : ℕ) (c : Chart) → Reachable t c → Fits capacity c →
         c ≡ steps t capacity c.finished (opened t capacity) }
 {}

@@ -14,6 +14,7 @@ pub enum Kind {
 /// A word or a rule over a span, by its number. A default node fills room that no reading has written to.
 #[derive(Clone, Copy, Default, PartialEq, Eq, Debug)]
 pub struct Node {
+    /// Whether it is a word or a rule.
     pub kind: Kind,
     /// The number of the word in its lattice, or of the rule in its grammar, from 0.
     pub number: u8,
@@ -26,7 +27,7 @@ pub struct Node {
 // The kind in one word.
 impl fmt::Display for Kind {
     ghost use Rattle.std.specs.Prelude.{Some};
-    ghost use Rattle.chart_model.specs.Telling.{kind_text};
+    ghost use Rattle.chart_model.specs.Printing.{kind_text};
 
     ghost output = { λ kind. Some (kind_text kind) };
 
@@ -41,7 +42,7 @@ impl fmt::Display for Kind {
 // One line of the program's output, without its line feed.
 impl fmt::Display for Node {
     ghost use Rattle.std.specs.Prelude.{Some};
-    ghost use Rattle.chart_model.specs.Telling.{node_text};
+    ghost use Rattle.chart_model.specs.Printing.{node_text};
 
     ghost output = { λ node. Some (node_text node) };
 

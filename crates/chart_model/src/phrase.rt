@@ -7,6 +7,7 @@ use crate::edge::Edge;
 /// A symbol over a span. Any three numbers are a phrase; a chart refuses with 7 where its lattice has no such span.
 #[derive(Clone, Copy, PartialEq, Eq, Debug)]
 pub struct Phrase {
+    /// The symbol, 0 to 255.
     pub symbol: u8,
     /// The node where the span begins.
     pub from: u8,

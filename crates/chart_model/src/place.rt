@@ -1,6 +1,6 @@
 // Places of a chart, and the arrivals that fill them and make them lighter.
 ghost use Rattle.std.specs.Prelude.{◌≡◌};
-ghost use Rattle.chart_model.specs.Plain.{arriving, unused, fresh, lightened, ended, seen, is_open};
+ghost use Rattle.chart_model.specs.Plain.{arriving, unused, fresh, lightened, finished_place, entry, is_open};
 
 use crate::edge::Edge;
 use crate::origin::Origin;
@@ -8,28 +8,35 @@ use crate::origin::Origin;
 /// An edge of a chart, with the lightest of its arrivals so far.
 #[derive(Clone, Copy, PartialEq, Eq, Debug)]
 pub struct Place {
+    /// Of its own: no two places of a chart share an edge.
     pub edge: Edge,
     /// A code of the chart's weighing.
     pub weight: u64,
+    /// The inference that gave the weight.
     pub origin: Origin,
     /// The position in the order of finishing, from 1; none while the edge is open.
-    pub finished: Option<u16>,
+    pub rank: Option<u16>,
 }
 
 /// The conclusion of an inference: an edge, the weight that it has by it, and the premises as its origin.
 #[derive(Clone, Copy, PartialEq, Eq, Debug)]
 pub struct Arrival {
+    /// The edge that is concluded.
     pub edge: Edge,
+    /// A code of the chart's weighing.
     pub weight: u64,
+    /// The inference, with its premises.
     pub origin: Origin,
 }
 
 /// An entry of a chart: an edge with its place and its weight.
 #[derive(Clone, Copy, PartialEq, Eq, Debug)]
-pub struct Standing {
+pub struct Entry {
     /// The number of the place, from 0.
     pub at: u16,
+    /// The edge that stands there.
     pub edge: Edge,
+    /// Its weight, a code of the chart's weighing.
     pub weight: u64,
 }
 
@@ -69,7 +76,7 @@ impl From<Arrival> for Place {
             edge: arrival.edge,
             weight: arrival.weight,
             origin: arrival.origin,
-            finished: None,
+            rank: None,
         }
     }
 }
@@ -77,16 +84,16 @@ impl From<Arrival> for Place {
 impl Place {
     /// Whether the edge may still get lighter.
     pub fn is_open(&self) -> bool
-        ensures { result ≡ is_open self.now.finished }
+        ensures { result ≡ is_open self.now.rank }
     {
-        self.finished.is_none()
+        self.rank.is_none()
     }
 
     /// The entry, where the number of this place is `at`.
-    pub fn seen(&self, at: u16) -> Standing
-        ensures { result ≡ seen at self.now }
+    pub fn entry(&self, at: u16) -> Entry
+        ensures { result ≡ entry at self.now }
     {
-        Standing {
+        Entry {
             at,
             edge: self.edge,
             weight: self.weight,
@@ -103,8 +110,8 @@ impl Place {
 
     /// Finishes the edge, as the one of this number in the order of finishing.
     pub fn finish(&mut self, number: u16)
-        ensures { self.new ≡ ended number self.old }
+        ensures { self.new ≡ finished_place number self.old }
     {
-        self.finished = Some(number);
+        self.rank = Some(number);
     }
 }

@@ -134,7 +134,7 @@ fn one_node_short(rt: HostRuntime) -> Result<(), Fail> {
 fn no_such_line(rt: HostRuntime) -> Result<(), Fail> {
     let mut nodes = [UNUSED; 2];
     let none = ReadingRefusal::Unanswered(SettledRefusal::NoDerivation);
-    let outside = ReadingRefusal::Unanswered(SettledRefusal::NoStretch);
+    let outside = ReadingRefusal::Unanswered(SettledRefusal::NoSpan);
     assert_eq!(rt; read_line(&[word(0, 4, 19, 1)], &mut nodes)?, Err(none));
     assert_eq!(rt; read_line(&two_boxes()[..3], &mut nodes)?, Err(outside));
     assert_eq!(rt; nodes, [UNUSED; 2], "a refusal leaves the list");

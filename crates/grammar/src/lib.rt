@@ -4,8 +4,7 @@
 ghost use Rattle.std.specs.Prelude.{◌≡◌, List, length as list_length};
 ghost use Rattle.grammar.specs.Rules.{Rule, Limits, left_of, mark_of, length_of, right_of};
 
-/// At most 96 context-free rules of at most four right symbols, both numbered from 0; a number past the end has no answer.
-/// No method changes the grammar.
+/// A context-free grammar. `None` stands for what there is not. Limits: 96 rules, 4 right symbols of each.
 pub trait Grammar {
     /// The rules, in order.
     ghost rules: { Self → List Rule };

@@ -1,1 +1,1 @@
-pub mod Surcharging
+pub mod Penalizing

@@ -31,8 +31,8 @@ three = 18
 abbrev pub box : ℕ
 box = 19
 
-abbrev pub opened : ℕ
-opened = 20
+abbrev pub open_word : ℕ
+open_word = 20
 
 abbrev pub um : ℕ
 um = 21
@@ -47,8 +47,8 @@ count_rules =
     rewrites line (part ∷ []) 0
     ∷ rewrites line (line ∷ gap ∷ part ∷ []) 2
     ∷ rewrites part (num ∷ box ∷ []) 3
-    ∷ rewrites part (opened ∷ num ∷ []) 4
-    ∷ rewrites part (num ∷ box ∷ opened ∷ []) 9
+    ∷ rewrites part (open_word ∷ num ∷ []) 4
+    ∷ rewrites part (num ∷ box ∷ open_word ∷ []) 9
     ∷ rewrites part (num ∷ []) 6
     ∷ rewrites num (one ∷ []) 0
     ∷ rewrites num (two ∷ []) 0

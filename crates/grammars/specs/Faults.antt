@@ -1,7 +1,7 @@
 -- The numbers of the refusals of rules. Assumes nothing.
 use Rattle.std.specs.Prelude.{ℕ, Option}
 use Rattle.records.specs.declared.fault.ListFault.{ListFault}
-use Rattle.records.specs.Faults.{list_told}
+use Rattle.records.specs.Faults.{number_and_place}
 use Rattle.grammars.specs.declared.fault.RuleFault.{RuleFault}
 use Rattle.grammars.specs.declared.fault.RuleFault.TheVariants.{TooLong}
 
@@ -13,5 +13,5 @@ abbrev pub too_many_rules : ℕ
 too_many_rules = 6
 
 -- the number of a list's refusal, and the place of the rule where one is at fault
-abbrev pub told : ListFault RuleFault → ℕ × Option ℕ
-told fault = list_told too_many_rules rule_number fault
+abbrev pub grammar_number_and_place : ListFault RuleFault → ℕ × Option ℕ
+grammar_number_and_place fault = number_and_place too_many_rules rule_number fault

@@ -2,5 +2,5 @@ pub mod Records
 pub mod Faults
 pub mod Checking
 pub mod Count
-pub mod Surcharges
+pub mod Penalties
 pub mod Meaning

@@ -4,9 +4,9 @@ use Rattle.grammar.specs.declared.Grammar.{Ghosts}
 use Rattle.grammar.specs.Rules.{Rule, Limits}
 use Rattle.grammars.specs.declared.list.RuleList.{RuleList}
 use Rattle.grammars.specs.declared.rule.RuleRecord.{RuleRecord}
-use Rattle.grammars.specs.declared.surcharge.Surcharge.{Surcharge}
+use Rattle.grammars.specs.declared.penalized.Penalized.{Penalized}
 use Rattle.grammars.specs.Records.{rules_of, records_limits}
-use Rattle.grammars.specs.Surcharges.{surcharged, surcharged_limits}
+use Rattle.grammars.specs.Penalties.{penalized, penalized_limits}
 
 -- the records of a rule list, and the rules that they stand for
 abbrev pub listed_records : RuleList → List RuleRecord
@@ -21,8 +21,8 @@ listed_keeps list = records_limits list.checked.records.now list.checked.few lis
 -- a layer over any grammar
 module _ {G : Type 0} {g : Ghosts G} where
   -- the rules below, with the penalty on those of its symbol
-  abbrev pub surcharged_rules : Surcharge G g → List Rule
-  surcharged_rules it = surcharged it.symbol it.extra (g.rules it.grammar)
+  abbrev pub penalized_rules : Penalized G g → List Rule
+  penalized_rules it = penalized it.symbol it.penalty (g.rules it.grammar)
 
-  pub surcharged_keeps : (it : Surcharge G g) → Limits (surcharged_rules it)
-  surcharged_keeps it = surcharged_limits it.symbol it.extra (g.rules it.grammar) (g.limits it.grammar)
+  pub penalized_keeps : (it : Penalized G g) → Limits (penalized_rules it)
+  penalized_keeps it = penalized_limits it.symbol it.penalty (g.rules it.grammar) (g.limits it.grammar)

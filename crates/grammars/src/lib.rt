@@ -5,7 +5,7 @@ pub mod checked;
 pub mod count;
 pub mod fault;
 pub mod list;
+pub mod penalized;
 pub mod rule;
-pub mod surcharge;
 #[cfg(test)]
 mod tests;

@@ -3,8 +3,8 @@ use crate::checked::{CheckedRules, no_rules};
 use crate::count::*;
 use crate::fault::*;
 use crate::list::RuleList;
+use crate::penalized::Penalized;
 use crate::rule::RuleRecord;
-use crate::surcharge::Surcharge;
 use grammar::Grammar;
 use records::numbered::Numbered;
 use std::test::Fail;
@@ -73,9 +73,9 @@ fn counts(rt: HostRuntime) {
 }
 
 #[test]
-fn three_surcharges(rt: HostRuntime) {
-    let below = Surcharge::new(CountGrammar, PART, 20);
-    let pile = Surcharge::new(Surcharge::new(below, GAP, 5), PART, 65_535);
+fn three_penalties(rt: HostRuntime) {
+    let below = Penalized::new(CountGrammar, PART, 20);
+    let pile = Penalized::new(Penalized::new(below, GAP, 5), PART, 65_535);
     assert_eq!(rt; pile.mark(2), Some(65_535));
     assert_eq!(rt; pile.mark(9), Some(5));
     assert_eq!(rt; pile.mark(0), Some(0));

@@ -3,11 +3,11 @@ use Rattle.std.specs.Prelude.{◌≡◌, ℕ, true, false, List, Some, None, Opt
 use Rattle.std.specs.Option.{option_map}
 use Rattle.std.specs.Result.{result_err}
 use Rattle.records.specs.Lists.{list_refusal}
-use Rattle.records.specs.Faults.{TellsRefusal}
+use Rattle.records.specs.Faults.{MatchesListRefusal}
 use Rattle.records.specs.declared.fault.ListFault.{ListFault}
 use Rattle.lattice.specs.declared.word.Word.{Word}
 use Rattle.lattice.specs.declared.fault.WordFault.{WordFault}
-use Rattle.lattice.specs.Faults.{too_many_words, word_number, told}
+use Rattle.lattice.specs.Faults.{too_many_words, word_number, lattice_number_and_place}
 use Rattle.lattice.specs.Words.{forward, greatest_node, most_words}
 
 -- 1 if the word does not point forward, else 2 if it passes the greatest node
@@ -23,7 +23,7 @@ abbrev pub words_refusal : List Word → Option (ℕ × Option ℕ)
 words_refusal ws = list_refusal most_words too_many_words word_refusal ws
 
 -- the contract of `Checked`, read for words
-pub check_tells_words : {A : Type 0} (xs : List Word) (r : Result A (ListFault WordFault)) →
-    TellsRefusal most_words too_many_words word_number word_refusal xs r →
-    option_map told (result_err r) ≡ words_refusal xs
-check_tells_words xs r tells = tells
+pub check_matches_words : {A : Type 0} (xs : List Word) (r : Result A (ListFault WordFault)) →
+    MatchesListRefusal most_words too_many_words word_number word_refusal xs r →
+    option_map lattice_number_and_place (result_err r) ≡ words_refusal xs
+check_matches_words xs r tells = tells

@@ -12,7 +12,7 @@ pub mod word;
 
 use word::Word;
 
-/// An acyclic graph of words: at most 128 of them, in a fixed order from 0, over nodes up to 31. No method changes it.
+/// An acyclic graph whose arcs are words. Limits: node 31, 128 words. All methods are pure.
 pub trait Lattice {
     /// What `last_node` answers.
     ghost last: { Self → ℕ };

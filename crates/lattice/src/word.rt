@@ -7,8 +7,8 @@ pub struct Word {
     pub from: u8,
     /// The node where it ends, at most 31.
     pub to: u8,
-    /// What was heard, as a symbol of the grammar.
+    /// What was heard, as a symbol, 0 to 255.
     pub symbol: u8,
-    /// How doubtful the word is, from 0 for no doubt.
+    /// How doubtful the word is: 0, no doubt, to 65,535.
     pub mark: u16,
 }

@@ -6,8 +6,7 @@ use lattice::Lattice;
 use lattice::checked::CheckedWords;
 use lattice::word::Word;
 
-/// The words of a caller's list that passed the check, numbered by their places. The last node is the maximum of their
-/// ends, found once; 0 if there are none.
+/// A lattice that borrows a checked list of words. N = max({0} ∪ ends), computed once.
 #[derive(Drop)]
 pub struct HeardLattice<'a> {
     checked: CheckedWords<'a>,

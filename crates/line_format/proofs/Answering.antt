@@ -4,7 +4,7 @@ use Rattle.std.specs.Option.{ok_or}
 use Rattle.arrayvec.specs.ArrayVec.{ArrayVec}
 use Rattle.lattice.specs.declared.word.Word.{Word}
 use Rattle.line_format.specs.declared.fault.FormFault.{FormFault}
-use Rattle.line_format.specs.Reading.{Answers, ReadsBack, ReadsOnly}
+use Rattle.line_format.specs.Parsing.{Answers, ReadsBack, ReadsOnly}
 use Rattle.line_format.specs.Writing.{enough}
 use Rattle.line_format.proofs.Deciding.{text_decided}
 use Rattle.line_format.proofs.WrittenTexts.{written_read, read_written}

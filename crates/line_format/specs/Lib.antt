@@ -2,4 +2,4 @@ pub mod Lines
 pub mod Split
 pub mod Faults
 pub mod Writing
-pub mod Reading
+pub mod Parsing

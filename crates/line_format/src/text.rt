@@ -1,7 +1,7 @@
 // Parsing of a text, line by line.
 ghost use Rattle.std.specs.Prelude.{◌≡◌, ◌<◌, ◌∷◌, length};
 ghost use Rattle.line_format.specs.Lines.{lines};
-ghost use Rattle.line_format.specs.Reading.{Answers, ReadsBack, ReadsOnly};
+ghost use Rattle.line_format.specs.Parsing.{Answers, ReadsBack, ReadsOnly};
 ghost use Rattle.line_format.specs.Writing.{enough, Decided};
 
 use crate::fault::FormFault;
@@ -16,7 +16,7 @@ pub const MOST_LINES: usize = 128;
 /// So many bytes decide what any text says: 128 lines of at most 18 bytes, and one byte more.
 pub const ENOUGH_BYTES: usize = 2305;
 
-/// How many bytes decide what any text says: `ENOUGH_BYTES`, with its meaning.
+/// `ENOUGH_BYTES`, tied by its contract to what it means.
 pub fn needed_bytes() -> usize
     ensures { result ≡ enough }
 {

@@ -7,10 +7,10 @@ use Rattle.records.specs.declared.fault.ListFault.{ListFault}
 use Rattle.records.specs.declared.fault.ListFault.TheVariants.{TooMany, At}
 
 -- the number of the refusal, and the place of the record where one is at fault
-abbrev pub list_told : {F : Type 0} → ℕ → (F → ℕ) → ListFault F → ℕ × Option ℕ
-list_told too_many number TooMany = (too_many, None)
-list_told too_many number (At at fault) = (number fault, Some at)
+abbrev pub number_and_place : {F : Type 0} → ℕ → (F → ℕ) → ListFault F → ℕ × Option ℕ
+number_and_place too_many number TooMany = (too_many, None)
+number_and_place too_many number (At at fault) = (number fault, Some at)
 
 -- a check refuses a list just where the list has a refusal, and by its number and place
-abbrev pub TellsRefusal : {X A F : Type 0} → ℕ → ℕ → (F → ℕ) → (X → Option ℕ) → List X → Result A (ListFault F) → Type 0
-TellsRefusal most too_many number refusal xs result = option_map (list_told too_many number) (result_err result) ≡ list_refusal most too_many refusal xs
+abbrev pub MatchesListRefusal : {X A F : Type 0} → ℕ → ℕ → (F → ℕ) → (X → Option ℕ) → List X → Result A (ListFault F) → Type 0
+MatchesListRefusal most too_many number refusal xs result = option_map (number_and_place too_many number) (result_err result) ≡ list_refusal most too_many refusal xs

@@ -1,3 +1,3 @@
 pub mod Lists
 pub mod Faults
-pub mod Telling
+pub mod Printing

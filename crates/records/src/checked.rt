@@ -1,7 +1,7 @@
 // Lists of records that passed their check, so that nothing made of them is refused.
 ghost use Rattle.std.specs.Prelude.{◌≡◌, ◌≤◌, true, length, Ok, Err, IfOk};
 ghost use Rattle.std.specs.List.{list_all};
-ghost use Rattle.records.specs.Faults.{TellsRefusal};
+ghost use Rattle.records.specs.Faults.{MatchesListRefusal};
 
 use crate::fault::{ListFault, RecordFault};
 use crate::{Record, check_records};
@@ -18,7 +18,7 @@ pub struct Checked<'a, R: Record> {
 impl<'a, R: Record> Checked<'a, R> {
     /// Checks a list. Refused with `TooMany` for more than `R::MOST` records, else with the first fault and its place.
     pub fn new(records: &'a [R]) -> Result<Self, ListFault<R::Fault>>
-        ensures refused { TellsRefusal R.MOST R.Fault.TOO_MANY R.Fault.number R.refusal records.now
+        ensures refused { MatchesListRefusal R.MOST R.Fault.TOO_MANY R.Fault.number R.refusal records.now
             result }
         ensures records { IfOk result (λ checked. checked.records.now ≡ records.now) }
     {
@@ -31,7 +31,7 @@ impl<'a, R: Record> Checked<'a, R> {
 
     /// Replaces the list by another that passes the check. Refused as by `new`; the former list stays then.
     pub fn check(&mut self, records: &'a [R]) -> Result<(), ListFault<R::Fault>>
-        ensures refused { TellsRefusal R.MOST R.Fault.TOO_MANY R.Fault.number R.refusal records.now
+        ensures refused { MatchesListRefusal R.MOST R.Fault.TOO_MANY R.Fault.number R.refusal records.now
             result }
         ensures records { self.new.records.now
             ≡ elim result [ Ok _ ↦ records.now | Err _ ↦ self.old.records.now ] }

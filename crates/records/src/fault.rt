@@ -1,6 +1,6 @@
 // What is wrong with a list of records: its length, or the first record at fault.
 ghost use Rattle.std.specs.Prelude.{ℕ};
-ghost use Rattle.records.specs.Faults.{list_told};
+ghost use Rattle.records.specs.Faults.{number_and_place};
 
 use crate::numbered::Numbered;
 
@@ -22,7 +22,7 @@ pub enum ListFault<F> {
 }
 
 impl<F: RecordFault> Numbered for ListFault<F> {
-    ghost number = { λ f. (list_told F.TOO_MANY F.number f).0 };
+    ghost number = { λ f. (number_and_place F.TOO_MANY F.number f).0 };
 
     fn number(self) -> u8 {
         match self {

@@ -6,7 +6,7 @@ ghost use Rattle.std.specs.Option.{option_map};
 ghost use Rattle.std.specs.Result.{result_err};
 ghost use Rattle.std.specs.List.{list_all};
 ghost use Rattle.records.specs.Lists.{first_refusal};
-ghost use Rattle.records.specs.Faults.{list_told};
+ghost use Rattle.records.specs.Faults.{number_and_place};
 
 pub mod checked;
 pub mod fault;
@@ -14,7 +14,7 @@ pub mod numbered;
 
 use fault::{ListFault, RecordFault};
 
-/// A record of a list. It means by which number it is refused, and what it keeps to if it is accepted.
+/// A record of a list. It defines the number by which it is refused, and what it keeps to if it is accepted.
 pub trait Record: Copy {
     /// Why a record is refused.
     type Fault: RecordFault;
@@ -38,7 +38,7 @@ pub trait Record: Copy {
 
 /// Checks records in order, however many. Refused with the first fault and the place of its record, from 0.
 pub fn check_records<R: Record>(records: &[R]) -> Result<(), ListFault<R::Fault>>
-    ensures refused { option_map (list_told R.Fault.TOO_MANY R.Fault.number) (result_err result)
+    ensures refused { option_map (number_and_place R.Fault.TOO_MANY R.Fault.number) (result_err result)
         ≡ first_refusal R.refusal 0 records.now }
     ensures accepted { OnOk result (list_all R.within records.now ≡ true) }
 {

@@ -3,7 +3,7 @@ ghost use Rattle.std.specs.Prelude.{◌≡◌, ℕ};
 
 use std::fmt;
 
-/// A refusal that has a number, which is never 0.
+/// A refusal that has a number.
 pub trait Numbered: Copy {
     ghost number: { Self → ℕ };
 
@@ -14,13 +14,13 @@ pub trait Numbered: Copy {
 
 /// An answer as a program prints it: the text of its value, or `refused` and the number.
 #[derive(Drop)]
-pub struct Told<T, N>(pub Result<T, N>);
+pub struct Printed<T, N>(pub Result<T, N>);
 
-impl<T: fmt::Display, N: Numbered> fmt::Display for Told<T, N> {
+impl<T: fmt::Display, N: Numbered> fmt::Display for Printed<T, N> {
     ghost use Rattle.std.specs.Prelude.{Some, Ok, Err};
-    ghost use Rattle.records.specs.Telling.{refused_text};
+    ghost use Rattle.records.specs.Printing.{refused_text};
 
-    ghost output = { λ told. elim told.0 [
+    ghost output = { λ printed. elim printed.0 [
       | Ok answer ↦ T.output answer
       | Err refusal ↦ Some (refused_text (N.number refusal))
     ] };

@@ -8,16 +8,16 @@ use Rattle.chart_model.specs.Task.{Task}
 use Rattle.chart_model.specs.Derivation.{tree_weight}
 use Rattle.chart_model.specs.Listing.{tree_nodes}
 use Rattle.chart_model.specs.Plain.{Chart, settled_answer}
-use Rattle.chart_model.specs.Reading.{reading, over, reading_list}
+use Rattle.chart_model.specs.Reading.{reading, overwritten, reading_list}
 use Rattle.chart_model.specs.Saying.{Lies, SettledSays}
 use Rattle.chart_model.specs.Stands.{Unfinished, NoneLighter}
 use Rattle.chart_model.specs.declared.node.Node.{Node}
 use Rattle.chart_model.specs.declared.phrase.Phrase.{Phrase}
-use Rattle.chart_model.proofs.Lists.{over_fits}
+use Rattle.chart_model.proofs.Lists.{overwritten_fits}
 use Rattle.chart.specs.Saying.{ListedSays, beside, listed_answer}
 use Rattle.chart.specs.View.{room}
 use Rattle.chart.specs.declared.read.Listed.{Listed}
-use Rattle.stock_reader.specs.Line.{line_task, line_phrase, line_chart, whole_line, LineTree, most_nodes, WeightAndNodes, fitting, line_reading, LineSays}
+use Rattle.stock_reader.specs.Line.{line_task, line_phrase, line_chart, whole_line, LineTree, most_nodes, WeightAndNodes, fitting, line_parse, LineSays}
 
 -- two answers that are refused by one number
 same_number : {A : Type 0} (m n : ℕ) → ◌≡◌ {A = Result A ℕ} (Err m) (Err n) → m ≡ n
@@ -52,8 +52,8 @@ module _ (ws : List Word) where
           λ (none, few). ap Err (same_number number 9 (so.no_derivation.1 (lies, few, none))),
         );
         full = (
-          λ e. let (inside, none, over) = so.full.0 (ap Err (same_number number 10 e)) in (none, over),
-          λ (none, over). ap Err (same_number number 10 (so.full.1 (lies, none, over))),
+          λ e. let (inside, none, exceeds) = so.full.0 (ap Err (same_number number 10 e)) in (none, exceeds),
+          λ (none, exceeds). ap Err (same_number number 10 (so.full.1 (lies, none, exceeds))),
         );
         refusals = λ other e. among (same_number number other e) (so.refusals number refl);
       }
@@ -64,22 +64,22 @@ module _ (ws : List Word) where
       never twelve (inr (inr h)) = omega arith
 
       among : {other : ℕ} → number ≡ other → (number ≡ 7) ⊎ ((number ≡ 9) ⊎ (number ≡ 10)) → (other ≡ 9) ⊎ ((other ≡ 10) ⊎ (other ≡ 12))
-      among same (inl h) = absurd (so.tells.stretch.0 (ap Err h) lies)
+      among same (inl h) = absurd (so.question.span.0 (ap Err h) lies)
       among same (inr (inl h)) = inl (sym same ∙ h)
       among same (inr (inr h)) = inr (inl (sym same ∙ h))
 
   module _ (w : ℕ) (so : SettledSays t room c p (Ok w)) where
     carries : Unfinished c (whole_line ws) → ⊥
-    carries none = let some = (so.tells.finished w).0 refl in let e : ◌≡◌ None (Some w) = sym none ∙ some in cc
+    carries none = let some = (so.question.finished w).0 refl in let e : ◌≡◌ None (Some w) = sym none ∙ some in cc
 
     -- a reading that is too long
     long_says : (d : LineTree ws) → tree_weight d ≡ w → most_nodes < length (tree_nodes d) → LineSays ws (Err 12)
     long_says d weight long =
         record {
           read = λ v ns e. absurd cc;
-          too_long = λ e. (d, subst (NoneLighter t (whole_line ws)) (sym weight) (so.tells.least w refl), long);
+          too_long = λ e. (d, subst (NoneLighter t (whole_line ws)) (sym weight) (so.question.least w refl), long);
           no_derivation = (λ e. absurd (let n = same_number 12 9 e in omega arith), λ (none, few). absurd (none d));
-          full = (λ e. absurd (let n = same_number 12 10 e in omega arith), λ (none, over). absurd (carries none));
+          full = (λ e. absurd (let n = same_number 12 10 e in omega arith), λ (none, exceeds). absurd (carries none));
           refusals = λ other e. inr (inr (sym (same_number 12 other e)));
         }
 
@@ -91,10 +91,10 @@ module _ (ws : List Word) where
               let both = same_read (w, ns) (v, ms) e in
               let same : w ≡ v = ap (λ (x : WeightAndNodes). x.0) both in
               let list : ns ≡ ms = ap (λ (x : WeightAndNodes). x.1) both in
-              (d, weight ∙ same, nodes ∙ list, subst (NoneLighter t (whole_line ws)) same (so.tells.least w refl));
+              (d, weight ∙ same, nodes ∙ list, subst (NoneLighter t (whole_line ws)) same (so.question.least w refl));
           too_long = λ e. absurd cc;
           no_derivation = (λ e. absurd cc, λ (none, few). absurd (none d));
-          full = (λ e. absurd cc, λ (none, over). absurd (carries none));
+          full = (λ e. absurd cc, λ (none, exceeds). absurd (carries none));
           refusals = λ other e. absurd cc;
         }
 
@@ -140,10 +140,10 @@ module _ (ws : List Word) (before after : List Node) (whole : length before ≡ 
       go true g = absurd cc
       go false g = cc
 
-  told_so : (l : Listed) (o : Result ℕ ℕ) → Ok l ≡ listed o → after ≡ elim o as (λ _. List Node) [ Ok w ↦ over nodes before | Err n ↦ before ] →
+  said : (l : Listed) (o : Result ℕ ℕ) → Ok l ≡ listed o → after ≡ elim o as (λ _. List Node) [ Ok w ↦ overwritten nodes before | Err n ↦ before ] →
       (all : List Node) → length all ≡ most_nodes → Ok (l.weight, kept l.nodes all after) ≡ read_so o
-  told_so l (Err n) h written all room = absurd cc
-  told_so l (Ok w) h written all room = go fits_all refl h ∙ ap (λ b. elim b as (λ _. Result WeightAndNodes ℕ) [ true ↦ Ok (w, nodes) | false ↦ Err 12 ]) (sym same_room)
+  said l (Err n) h written all room = absurd cc
+  said l (Ok w) h written all room = go fits_all refl h ∙ ap (λ b. elim b as (λ _. Result WeightAndNodes ℕ) [ true ↦ Ok (w, nodes) | false ↦ Err 12 ]) (sym same_room)
     where
       go : (b : Bool) → fits_all ≡ b → Ok l ≡ beside w (counted b) → Ok (l.weight, kept l.nodes all after) ≡ elim b as (λ _. Result WeightAndNodes ℕ) [ true ↦ Ok (w, nodes) | false ↦ Err 12 ]
       go false fits g = absurd cc
@@ -151,14 +151,14 @@ module _ (ws : List Word) (before after : List Node) (whole : length before ≡ 
           let within : length nodes ≤ length before = leb-true (length nodes) (length before) fits in
           let in_all : length nodes ≤ length all = omega arith in
           let is : l ≡ record { weight = w; nodes = length nodes } = cc in
-          let list : after ≡ nodes ++ drop (length nodes) before = written ∙ over_fits nodes before within in
+          let list : after ≡ nodes ++ drop (length nodes) before = written ∙ overwritten_fits nodes before within in
           ap (λ (k : Listed). Ok (k.weight, kept k.nodes all after)) is
           ∙ ap (λ ms. Ok (w, kept (length nodes) all ms)) list
           ∙ ap (λ ms. Ok (w, ms)) (kept_first nodes (drop (length nodes) before) all in_all)
 
   -- what is read, and what it says
   pub record Read (r : Result WeightAndNodes ℕ) : Type 0 where
-    pub answer : r ≡ line_reading ws
+    pub answer : r ≡ line_parse ws
     pub says : LineSays ws r
 
   -- a phrase up to some node, which is the last
@@ -189,15 +189,15 @@ module _ (ws : List Word) (before after : List Node) (whole : length before ≡ 
       record {
         answer =
             ap Ok (ap (λ v. (v, items)) weight ∙ ap (λ ms. (l.weight, ms)) is)
-            ∙ told_so l (settled_answer (line_task ws) (line_chart ws) (line_phrase ws))
+            ∙ said l (settled_answer (line_task ws) (line_chart ws) (line_phrase ws))
             (subst (λ n. Ok l ≡ listed_answer (line_task ws) (line_chart ws) (up_to n) (length before)) end h)
             (subst (λ n. after ≡ reading_list (line_task ws) (line_chart ws) (up_to n) before) end list) all room;
         says = go (subst (λ n. ListedSays (line_task ws) (line_chart ws) (up_to n) before after (Ok l)) end says);
       }
     where
       go : ListedSays (line_task ws) (line_chart ws) (line_phrase ws) before after (Ok l) → LineSays ws (Ok (w, items))
-      go (Err other, so, (same, kept_so), told) = absurd cc
-      go (Ok v, so, (d, tree_is, (count, within, listed_so)), told) =
+      go (Err other, so, (same, kept_so), said) = absurd cc
+      go (Ok v, so, (d, tree_is, (count, within, listed_so)), said) =
           let same : v ≡ w = cc in
           let in_all : length (tree_nodes d) ≤ length all = omega arith in
           subst (λ u. LineSays ws (Ok (u, items))) same

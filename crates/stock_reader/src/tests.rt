@@ -1,7 +1,7 @@
 // Tests of texts, of their readings, and of what is printed.
 use super::*;
 use chart_model::node::Kind;
-use records::numbered::{Numbered, Told};
+use records::numbered::{Numbered, Printed};
 use std::test::Fail;
 
 fn weight(text: &str) -> Option<u64> {
@@ -51,7 +51,7 @@ fn refusals(rt: HostRuntime) {
 }
 
 #[test]
-fn nodes_told(rt: HostRuntime) -> Result<(), Fail> {
+fn nodes_printed(rt: HostRuntime) -> Result<(), Fail> {
     for (node, text) in [(RULE, "rule 1 0 4"), (WORD, "word 127 30 31")] {
         assert_eq!(rt; node.to_string(rt.alloc())?.as_str(), text);
     }
@@ -59,11 +59,11 @@ fn nodes_told(rt: HostRuntime) -> Result<(), Fail> {
 }
 
 #[test]
-fn reading_told(rt: HostRuntime) -> Result<(), Fail> {
+fn reading_printed(rt: HostRuntime) -> Result<(), Fail> {
     let mut nodes = ArrayVec::new();
     nodes.push(RULE);
     nodes.push(WORD);
-    let reading = Reading { weight: 109, nodes };
+    let reading = Parse { weight: 109, nodes };
     assert_eq!(rt;
         reading.to_string(rt.alloc())?.as_str(),
         "weight 109\nrule 1 0 4\nword 127 30 31"
@@ -72,7 +72,7 @@ fn reading_told(rt: HostRuntime) -> Result<(), Fail> {
 }
 
 #[test]
-fn answers_told(rt: HostRuntime) -> Result<(), Fail> {
+fn answers_printed(rt: HostRuntime) -> Result<(), Fail> {
     let answers: [(&[u8], &str); 3] = [
         (b"", "refused 9"),
         (b"5 32 1 0\n", "refused 2"),
@@ -82,8 +82,8 @@ fn answers_told(rt: HostRuntime) -> Result<(), Fail> {
         ),
     ];
     for (text, answer) in answers {
-        let told = Told(read_line(text)).to_string(rt.alloc())?;
-        assert_eq!(rt; told.as_str(), answer);
+        let printed = Printed(read_line(text)).to_string(rt.alloc())?;
+        assert_eq!(rt; printed.as_str(), answer);
     }
     Ok(())
 }

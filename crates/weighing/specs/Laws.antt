@@ -23,9 +23,9 @@ pub record Lawful (w : Weights) : Type 0 where
   pub irreflexive : (a : ℕ) → Code a → w.lighter a a ≡ false
   pub total : (a b : ℕ) → Code a → Code b → (a ≢ b) → (w.lighter a b ≡ true) ⊎ (w.lighter b a ≡ true)
   pub transitive : (a b c : ℕ) → Code a → Code b → Code c → w.lighter a b ≡ true → w.lighter b c ≡ true → w.lighter a c ≡ true
-  -- superiority: a join is never lighter than either part
+  -- superiority: a ≼ a ⊗ b and b ≼ a ⊗ b
   pub no_gain_left : (a b : ℕ) → Code a → Code b → w.lighter (w.join a b) a ≡ false
   pub no_gain_right : (a b : ℕ) → Code a → Code b → w.lighter (w.join a b) b ≡ false
-  -- monotonicity: `join` respects the order in each argument
+  -- monotonicity: `join` keeps ≼ in each argument
   pub kept_left : (a b c : ℕ) → Code a → Code b → Code c → w.lighter a b ≡ false → w.lighter (w.join a c) (w.join b c) ≡ false
   pub kept_right : (a b c : ℕ) → Code a → Code b → Code c → w.lighter a b ≡ false → w.lighter (w.join c a) (w.join c b) ≡ false

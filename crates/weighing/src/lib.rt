@@ -13,7 +13,7 @@ pub trait Weighing {
     fn weigh(&self, mark: u16) -> u64
         ensures { result ≡ (weights self.now).weigh mark };
 
-    /// Joins a further weight, b, to the running weight, a.
+    /// a ⊗ b: the weight a so far, with one more premise of weight b.
     fn join(&self, a: u64, b: u64) -> u64
         ensures { result ≡ (weights self.now).join a b };
 

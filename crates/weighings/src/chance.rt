@@ -8,8 +8,8 @@ use weighing::Weighing;
 // The code of certainty, 2^31.
 const CERTAIN: u64 = 2_147_483_648;
 
-/// Chances multiply, rounded down; the larger one is lighter. A weight counts parts of 2^31 to certainty: mark 0 has all
-/// of them, and each further mark 32,768 less.
+/// Probabilities in units of 2^-31: mark 0 weighs 2^31, certainty, and each unit of a mark 32,768 less. They multiply,
+/// rounded down, and the larger one is lighter.
 #[derive(Clone, Copy, PartialEq, Eq, Debug, Default)]
 pub struct Chance;
 

@@ -8,9 +8,9 @@ use chart_model::phrase::Phrase;
 use grammar::Grammar;
 use lattice::Lattice;
 use records::numbered::Numbered;
+use reporting::case::{Answer, by_number};
+use reporting::reporter::{Asks, Reporter, Row};
 use std::io;
-use telling::case::{Answer, told};
-use telling::teller::{Asks, Row, Teller};
 use weighing::Weighing;
 
 // What is asked of a working chart: a step, how many of at most so many steps are not refused, or a weight.
@@ -40,9 +40,9 @@ pub(crate) struct Settled<G: Grammar, L: Lattice, W: Weighing> {
 impl<G: Grammar, L: Lattice, W: Weighing> Asks<WorkingChart<G, L, W>> for Move {
     fn ask(&self, chart: &mut WorkingChart<G, L, W>) -> Answer {
         match *self {
-            Move::Step => told(chart.step()),
+            Move::Step => by_number(chart.step()),
             Move::Steps(most) => Ok(u64::from(steps(chart, most))),
-            Move::Ask(symbol, from, to) => told(chart.question(Phrase { symbol, from, to })),
+            Move::Ask(symbol, from, to) => by_number(chart.question(Phrase { symbol, from, to })),
         }
     }
 }
@@ -61,7 +61,7 @@ impl<G: Grammar, L: Lattice, W: Weighing> Asks<Settled<G, L, W>> for Final {
     fn ask(&self, settled: &mut Settled<G, L, W>) -> Answer {
         match *self {
             Final::Weight(symbol, from, to) => {
-                told(settled.chart.question(Phrase { symbol, from, to }))
+                by_number(settled.chart.question(Phrase { symbol, from, to }))
             }
             Final::Read(symbol, from, to, room) => settled.read(Phrase { symbol, from, to }, room),
             Final::Nodes(at, from, expected) => {
@@ -86,16 +86,16 @@ impl<G: Grammar, L: Lattice, W: Weighing> Settled<G, L, W> {
 
 // Asks a chart the first rows, settles it, and asks it the others.
 pub(crate) fn step_and_settle<P: Print, G: Grammar + Drop, L: Lattice + Drop, W: Weighing + Drop>(
-    teller: &mut Teller<'_, P>,
+    reporter: &mut Reporter<'_, P>,
     setting: Setting<G, L, W>,
     before: &[Row<Move>],
     after: &[Row<Final>],
 ) -> io::Result<()> {
     let mut chart = WorkingChart::open(setting);
-    teller.tell_all(before, &mut chart)?;
+    reporter.report_all(before, &mut chart)?;
     let mut settled = Settled {
         chart: chart.settle(),
         nodes: [BLANK; MOST_NODES],
     };
-    teller.tell_all(after, &mut settled)
+    reporter.report_all(after, &mut settled)
 }

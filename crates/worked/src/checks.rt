@@ -7,8 +7,8 @@ use records::Record;
 use records::checked::Checked;
 use records::fault::ListFault;
 use records::numbered::Numbered;
-use telling::case::{Answer, done};
-use telling::teller::Asks;
+use reporting::case::{Answer, unit_by_number};
+use reporting::reporter::Asks;
 
 // How many copies of a word are accepted as a list, or the place of the first word at fault.
 #[derive(Clone, Copy)]
@@ -78,18 +78,18 @@ impl Asks<()> for RuleCheck {
 
 impl<'a, R: Record> Asks<Kept<'a, R>> for Next<R> {
     fn ask(&self, kept: &mut Kept<'a, R>) -> Answer {
-        done(kept.checked.check(self.0))
+        unit_by_number(kept.checked.check(self.0))
     }
 }
 
 impl<'a, R: Record> Asks<Kept<'a, R>> for TooMany {
     fn ask(&self, kept: &mut Kept<'a, R>) -> Answer {
-        done(kept.checked.check(kept.too_many))
+        unit_by_number(kept.checked.check(kept.too_many))
     }
 }
 
 impl<'a> Asks<TypedLine<'a>> for Bytes {
     fn ask(&self, line: &mut TypedLine<'a>) -> Answer {
-        done(line.set(self.0))
+        unit_by_number(line.set(self.0))
     }
 }

@@ -1,8 +1,8 @@
 // What is asked of weighings, grammars and lattices.
 use grammar::Grammar;
 use lattice::Lattice;
-use telling::case::{Answer, given};
-use telling::teller::Asks;
+use reporting::case::{Answer, given};
+use reporting::reporter::Asks;
 use weighing::Weighing;
 
 // The weight of a mark, or two weights joined.

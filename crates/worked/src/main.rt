@@ -13,27 +13,27 @@ mod tables;
 mod texts;
 mod theme;
 
+use reporting::reporter::Reporter;
+use reporting::tally::Tally;
 use std::io;
-use telling::tally::Tally;
-use telling::teller::Teller;
 use theme::Theme;
 
 // Plays themes in order.
-fn play_all<P: Print>(teller: &mut Teller<'_, P>, themes: &[Theme]) -> io::Result<()> {
+fn play_all<P: Print>(reporter: &mut Reporter<'_, P>, themes: &[Theme]) -> io::Result<()> {
     for theme in themes {
-        theme.play(teller)?;
+        theme.play(reporter)?;
     }
     Ok(())
 }
 
 fn main(rt: HostRuntime) -> io::Result<()> {
-    let mut teller = Teller {
+    let mut reporter = Reporter {
         rt: &rt,
         theme: "",
         tally: Tally::default(),
     };
     for themes in tables::all() {
-        play_all(&mut teller, themes)?;
+        play_all(&mut reporter, themes)?;
     }
-    println!(rt; "{}", teller.tally)
+    println!(rt; "{}", reporter.tally)
 }

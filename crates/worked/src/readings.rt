@@ -7,14 +7,14 @@ use chart_model::phrase::Phrase;
 use grammar::Grammar;
 use lattice::Lattice;
 use records::numbered::Numbered;
-use telling::case::Answer;
-use telling::teller::Asks;
+use reporting::case::Answer;
+use reporting::reporter::Asks;
 use weighing::Weighing;
 
 // What is asked of a reading: its weight, its length, how many nodes of the list agree with others from the front on, or
 // the same if the reading is as long as those.
 #[derive(Clone, Copy)]
-pub(crate) enum Listed {
+pub(crate) enum ReadLook {
     Weight,
     Length,
     Nodes(&'static [Node]),
@@ -29,7 +29,7 @@ pub(crate) const BLANK: Node = node!(Word, 255, 255, 255);
 
 // A reading in one call, and its list.
 #[derive(Clone, Copy)]
-pub(crate) struct Reading {
+pub(crate) struct Once {
     weight: Answer,
     length: Answer,
     nodes: [Node; MOST_NODES],
@@ -52,26 +52,26 @@ pub(crate) fn read_into<G: Grammar + Drop, L: Lattice + Drop, W: Weighing + Drop
     setting: Setting<G, L, W>,
     phrase: Phrase,
     room: usize,
-) -> Reading {
+) -> Once {
     let mut nodes = [BLANK; MOST_NODES];
     let (weight, length) = match read(setting, phrase, &mut nodes[..room.min(MOST_NODES)]) {
         Ok(listed) => (Ok(listed.weight), Ok(listed.nodes as u64)),
         Err(refusal) => (Err(refusal.number()), Err(refusal.number())),
     };
-    Reading {
+    Once {
         weight,
         length,
         nodes,
     }
 }
 
-impl Asks<Reading> for Listed {
-    fn ask(&self, reading: &mut Reading) -> Answer {
+impl Asks<Once> for ReadLook {
+    fn ask(&self, reading: &mut Once) -> Answer {
         match *self {
-            Listed::Weight => reading.weight,
-            Listed::Length => reading.length,
-            Listed::Nodes(expected) => shared(&reading.nodes, expected),
-            Listed::Whole(expected) => {
+            ReadLook::Weight => reading.weight,
+            ReadLook::Length => reading.length,
+            ReadLook::Nodes(expected) => shared(&reading.nodes, expected),
+            ReadLook::Whole(expected) => {
                 if reading.length == Ok(expected.len() as u64) {
                     shared(&reading.nodes, expected)
                 } else {

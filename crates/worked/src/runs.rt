@@ -10,8 +10,8 @@ use chart_model::edge::Edge;
 use grammar::Grammar;
 use lattice::Lattice;
 use records::numbered::Numbered;
-use telling::case::{Answer, given, told};
-use telling::teller::Asks;
+use reporting::case::{Answer, by_number, given};
+use reporting::reporter::Asks;
 use weighing::Weighing;
 
 // What is asked of a run: the answer of a call or of a final question by its number, the count of finished edges, whether
@@ -112,7 +112,7 @@ fn noted(call: &Call) -> Answer {
     match call {
         Call::Step {
             answer: Some(answer),
-        } => told(*answer),
+        } => by_number(*answer),
         Call::Step { answer: None } => Err(0),
         Call::Question(question) => given_to(question),
     }
@@ -121,7 +121,7 @@ fn noted(call: &Call) -> Answer {
 // The answer noted of a final question; refusal 0 for none.
 fn given_to<N: Numbered>(question: &Question<N>) -> Answer {
     match question.answer {
-        Some(answer) => told(answer),
+        Some(answer) => by_number(answer),
         None => Err(0),
     }
 }
@@ -152,8 +152,8 @@ fn made<G: Grammar, L: Lattice, W: Weighing>(
     call: &Call,
 ) -> Answer {
     match call {
-        Call::Step { .. } => told(chart.step()),
-        Call::Question(question) => told(chart.question(question.phrase)),
+        Call::Step { .. } => by_number(chart.step()),
+        Call::Question(question) => by_number(chart.question(question.phrase)),
     }
 }
 
@@ -178,7 +178,7 @@ fn questions_alike<G: Grammar, L: Lattice, W: Weighing>(
 ) -> u64 {
     let mut alike: u64 = 0;
     for question in questions {
-        if told(chart.question(question.phrase)) == given_to(question) {
+        if by_number(chart.question(question.phrase)) == given_to(question) {
             alike = alike.saturating_add(1);
         }
     }

@@ -1,18 +1,18 @@
 // Scripts: what is done with a setting.
 use crate::charts::{Final, Move, step_and_settle};
 use crate::looks::{Code, RuleLook};
-use crate::readings::{Listed, read_into};
+use crate::readings::{ReadLook, read_into};
 use crate::runs::{Alike, Left, make_run, one_by_one};
-use crate::settings::Over;
+use crate::settings::Inputs;
 use chart::call::{Call, FinalQuestion};
 use chart::setting::Setting;
 use chart::weigh::weigh;
 use chart_model::phrase::Phrase;
 use grammar::Grammar;
 use lattice::Lattice;
+use reporting::case::by_number;
+use reporting::reporter::{Reporter, Row};
 use std::io;
-use telling::case::told;
-use telling::teller::{Row, Teller};
 use weighing::Weighing;
 
 #[derive(Clone, Copy)]
@@ -22,9 +22,9 @@ pub(crate) enum Script {
     // What is asked of the rules.
     Rules(&'static [Row<RuleLook>]),
     // A weight in one call, as a case of this row.
-    Weigh(Phrase, &'static Row<Over>),
+    Weigh(Phrase, &'static Row<Inputs>),
     // A reading in one call, into so many nodes.
-    ReadOnce(Phrase, usize, &'static [Row<Listed>]),
+    ReadOnce(Phrase, usize, &'static [Row<ReadLook>]),
     // A chart, before and after it is settled.
     Chart(&'static [Row<Move>], &'static [Row<Final>]),
     // A run: so many steps and then calls, final questions if it settles, and what it leaves.
@@ -34,23 +34,23 @@ pub(crate) enum Script {
 }
 
 pub(crate) fn play<P: Print, G: Grammar + Drop, L: Lattice + Drop, W: Weighing + Drop>(
-    teller: &mut Teller<'_, P>,
+    reporter: &mut Reporter<'_, P>,
     mut setting: Setting<G, L, W>,
     script: &Script,
 ) -> io::Result<()> {
     match *script {
-        Script::Codes(rows) => teller.tell_all(rows, &mut setting.weighing),
-        Script::Rules(rows) => teller.tell_all(rows, &mut setting.grammar),
-        Script::Weigh(phrase, row) => teller.tell(row, told(weigh(setting, phrase))),
+        Script::Codes(rows) => reporter.report_all(rows, &mut setting.weighing),
+        Script::Rules(rows) => reporter.report_all(rows, &mut setting.grammar),
+        Script::Weigh(phrase, row) => reporter.report(row, by_number(weigh(setting, phrase))),
         Script::ReadOnce(phrase, room, rows) => {
-            teller.tell_all(rows, &mut read_into(setting, phrase, room))
+            reporter.report_all(rows, &mut read_into(setting, phrase, room))
         }
-        Script::Chart(before, after) => step_and_settle(teller, setting, before, after),
+        Script::Chart(before, after) => step_and_settle(reporter, setting, before, after),
         Script::Run(steps, calls, questions, rows) => {
-            teller.tell_all(rows, &mut make_run(setting, steps, calls, questions))
+            reporter.report_all(rows, &mut make_run(setting, steps, calls, questions))
         }
         Script::OneByOne(calls, questions, rows) => {
-            teller.tell_all(rows, &mut one_by_one(setting, calls, questions))
+            reporter.report_all(rows, &mut one_by_one(setting, calls, questions))
         }
     }
 }

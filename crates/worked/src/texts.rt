@@ -2,9 +2,9 @@
 use arrayvec::ArrayVec;
 use line_format::text::read_words;
 use records::numbered::Numbered;
+use reporting::case::Answer;
+use reporting::reporter::Asks;
 use stock_reader::read_line;
-use telling::case::Answer;
-use telling::teller::Asks;
 
 // What is asked: how many words so many lines and a further text have, or the weight or the number of nodes of a text's
 // reading.

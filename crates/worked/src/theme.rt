@@ -3,7 +3,7 @@ use crate::checks::{Bytes, Kept, Next, RuleCheck, TooMany, WordCheck};
 use crate::looks::{RuleLook, WordLook};
 use crate::making::{rule, word};
 use crate::script::Script;
-use crate::settings::Over;
+use crate::settings::Inputs;
 use crate::texts::Text;
 use chart_model::phrase::Phrase;
 use grammars::checked::no_rules;
@@ -13,8 +13,8 @@ use lattice::checked::no_words;
 use lattice::word::Word;
 use lattices::heard::HeardLattice;
 use lattices::typed::TypedLine;
+use reporting::reporter::{Reporter, Row};
 use std::io;
-use telling::teller::{Row, Teller};
 
 // A theme by its name, and its cases.
 #[derive(Clone, Copy)]
@@ -23,9 +23,9 @@ pub(crate) struct Theme(pub(crate) &'static str, pub(crate) Cases);
 #[derive(Clone, Copy)]
 pub(crate) enum Cases {
     // Scripts over a setting.
-    Scripts(Over, &'static [Script]),
+    Scripts(Inputs, &'static [Script]),
     // The weight of one phrase over several settings.
-    Weights(Phrase, &'static [Row<Over>]),
+    Weights(Phrase, &'static [Row<Inputs>]),
     // Checks of lists.
     Words(&'static [Row<WordCheck>]),
     Rules(&'static [Row<RuleCheck>]),
@@ -38,46 +38,46 @@ pub(crate) enum Cases {
 
 impl Theme {
     // Asks its rows, and reports what comes out.
-    pub(crate) fn play<P: Print>(&self, teller: &mut Teller<'_, P>) -> io::Result<()> {
-        teller.theme = self.0;
+    pub(crate) fn play<P: Print>(&self, reporter: &mut Reporter<'_, P>) -> io::Result<()> {
+        reporter.theme = self.0;
         match self.1 {
-            Cases::Scripts(over, scripts) => play_all(teller, &over, scripts),
-            Cases::Weights(phrase, rows) => weigh_all(teller, phrase, rows),
-            Cases::Words(rows) => teller.tell_all(rows, &mut ()),
-            Cases::Rules(rows) => teller.tell_all(rows, &mut ()),
-            Cases::KeptWords(lists, last, rows) => keep_words(teller, lists, last, rows),
-            Cases::KeptRules(lists, last, rows) => keep_rules(teller, lists, last, rows),
-            Cases::KeptBytes(lines, rows) => keep_bytes(teller, lines, rows),
-            Cases::Texts(rows) => teller.tell_all(rows, &mut ()),
+            Cases::Scripts(inputs, scripts) => play_all(reporter, &inputs, scripts),
+            Cases::Weights(phrase, rows) => weigh_all(reporter, phrase, rows),
+            Cases::Words(rows) => reporter.report_all(rows, &mut ()),
+            Cases::Rules(rows) => reporter.report_all(rows, &mut ()),
+            Cases::KeptWords(lists, last, rows) => keep_words(reporter, lists, last, rows),
+            Cases::KeptRules(lists, last, rows) => keep_rules(reporter, lists, last, rows),
+            Cases::KeptBytes(lines, rows) => keep_bytes(reporter, lines, rows),
+            Cases::Texts(rows) => reporter.report_all(rows, &mut ()),
         }
     }
 }
 
 fn play_all<P: Print>(
-    teller: &mut Teller<'_, P>,
-    over: &Over,
+    reporter: &mut Reporter<'_, P>,
+    inputs: &Inputs,
     scripts: &[Script],
 ) -> io::Result<()> {
     for script in scripts {
-        over.play(teller, script)?;
+        inputs.play(reporter, script)?;
     }
     Ok(())
 }
 
 fn weigh_all<P: Print>(
-    teller: &mut Teller<'_, P>,
+    reporter: &mut Reporter<'_, P>,
     phrase: Phrase,
-    rows: &'static [Row<Over>],
+    rows: &'static [Row<Inputs>],
 ) -> io::Result<()> {
     for row in rows {
-        row.1.play(teller, &Script::Weigh(phrase, row))?;
+        row.1.play(reporter, &Script::Weigh(phrase, row))?;
     }
     Ok(())
 }
 
 // 129 words are too many, and below 97 rules.
 fn keep_words<P: Print>(
-    teller: &mut Teller<'_, P>,
+    reporter: &mut Reporter<'_, P>,
     lists: &[Row<Next<Word>>],
     last: &[Row<TooMany>],
     rows: &[Row<WordLook>],
@@ -87,13 +87,13 @@ fn keep_words<P: Print>(
         checked: no_words(),
         too_many: &too_many,
     };
-    teller.tell_all(lists, &mut kept)?;
-    teller.tell_all(last, &mut kept)?;
-    teller.tell_all(rows, &mut HeardLattice::new(kept.checked))
+    reporter.report_all(lists, &mut kept)?;
+    reporter.report_all(last, &mut kept)?;
+    reporter.report_all(rows, &mut HeardLattice::new(kept.checked))
 }
 
 fn keep_rules<P: Print>(
-    teller: &mut Teller<'_, P>,
+    reporter: &mut Reporter<'_, P>,
     lists: &[Row<Next<RuleRecord>>],
     last: &[Row<TooMany>],
     rows: &[Row<RuleLook>],
@@ -103,17 +103,17 @@ fn keep_rules<P: Print>(
         checked: no_rules(),
         too_many: &too_many,
     };
-    teller.tell_all(lists, &mut kept)?;
-    teller.tell_all(last, &mut kept)?;
-    teller.tell_all(rows, &mut RuleList::new(kept.checked))
+    reporter.report_all(lists, &mut kept)?;
+    reporter.report_all(last, &mut kept)?;
+    reporter.report_all(rows, &mut RuleList::new(kept.checked))
 }
 
 fn keep_bytes<P: Print>(
-    teller: &mut Teller<'_, P>,
+    reporter: &mut Reporter<'_, P>,
     lines: &[Row<Bytes>],
     rows: &[Row<WordLook>],
 ) -> io::Result<()> {
     let mut line = TypedLine::empty();
-    teller.tell_all(lines, &mut line)?;
-    teller.tell_all(rows, &mut line)
+    reporter.report_all(lines, &mut line)?;
+    reporter.report_all(rows, &mut line)
 }

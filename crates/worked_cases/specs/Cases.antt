@@ -4,15 +4,15 @@ use Rattle.std.proofs.Common.{lit≤}
 use Rattle.weighing.specs.Laws.{Weights}
 use Rattle.weighings.specs.Weighings.{sum_weights, worst_weights, chance_weights}
 use Rattle.grammar.specs.Rules.{Rule}
-use Rattle.grammars.specs.Count.{line, part, num, gap, one, two, box, opened, rewrites, count_rules}
-use Rattle.grammars.specs.Surcharges.{surcharged}
+use Rattle.grammars.specs.Count.{line, part, num, gap, one, two, box, open_word, rewrites, count_rules}
+use Rattle.grammars.specs.Penalties.{penalized}
 use Rattle.lattice.specs.declared.word.Word.{Word}
 use Rattle.lattices.specs.Heard.{largest_end}
 use Rattle.lattices.specs.Typed.{typed_words}
 use Rattle.chart_model.specs.Task.{Task}
 use Rattle.chart_model.specs.Derivation.{Tree, word, rule, none, more, tree_weight}
 use Rattle.chart_model.specs.Listing.{node, tree_nodes}
-use Rattle.chart_model.specs.Plain.{Chart, opened as opening, step_answer, steps, settled, edge_of, working_answer, settled_answer}
+use Rattle.chart_model.specs.Plain.{Chart, opened, step_answer, steps, settled, edge_of, working_answer, settled_answer}
 use Rattle.chart_model.specs.Reading.{reading}
 use Rattle.chart_model.specs.declared.node.Kind.TheVariants.{Word as Heard, Rule as ByRule}
 use Rattle.chart_model.specs.declared.node.Node.{Node}
@@ -36,7 +36,7 @@ over_bytes rules bytes weights =
 -- "two box open one"
 abbrev pub two_boxes : List Rule → Weights → Task
 two_boxes rules weights =
-    over_words rules (heard 0 1 two 10 ∷ heard 1 2 box 20 ∷ heard 2 3 opened 30 ∷ heard 3 4 one 40 ∷ []) weights
+    over_words rules (heard 0 1 two 10 ∷ heard 1 2 box 20 ∷ heard 2 3 open_word 30 ∷ heard 3 4 one 40 ∷ []) weights
 
 abbrev pub no_words : Task
 no_words = over_words count_rules [] sum_weights
@@ -116,10 +116,10 @@ room = 1024
 
 -- the chart of a task after so many steps, and settled
 abbrev pub after : Task → ℕ → Chart
-after t n = steps t room n (opening t room)
+after t n = steps t room n (opened t room)
 
 abbrev pub final_chart : Task → Chart
-final_chart t = settled t room (opening t room)
+final_chart t = settled t room (opened t room)
 
 abbrev pub ComesOut : Case → Type 0
 ComesOut (settles t p answer) = settled_answer t (final_chart t) p ≡ answer
@@ -146,7 +146,7 @@ cases =
     -- by the chance that all marks leave
     ∷ settles (two_boxes count_rules chance_weights) (about line 0 4) (Ok 2143914145)
     -- with a penalty of 20 on each of two parts
-    ∷ settles (two_boxes (surcharged part 20 count_rules) sum_weights) (about line 0 4) (Ok 149)
+    ∷ settles (two_boxes (penalized part 20 count_rules) sum_weights) (about line 0 4) (Ok 149)
     -- without words: the empty gap, but no line; after one step nothing is open
     ∷ settles no_words (about gap 0 0) (Ok 0)
     ∷ settles no_words (about line 0 0) (Err 9)

@@ -114,7 +114,7 @@ fn timed(input: &Input) -> [(f64, f64); WAYS.len()] {
     })
 }
 
-fn told(answer: Result<u64, u8>) -> String {
+fn printed(answer: Result<u64, u8>) -> String {
     answer.map_or_else(
         |refusal| format!("refused {refusal}"),
         |weight| weight.to_string(),
@@ -192,7 +192,7 @@ fn compare_timed() -> usize {
         println!(
             "{:24} {edges:>5} edges, {finished:>5} finished, {full}, {}",
             input.name,
-            told(answer)
+            printed(answer)
         );
         differences += found.differences.len();
     }
@@ -275,7 +275,7 @@ fn repeat(how: &str, input: &str, times: u32) -> Option<()> {
         "{how}, {}: {:.0} ns a chart, {}",
         input.name,
         nanoseconds(*weigh, input, times),
-        told(weigh(input))
+        printed(weigh(input))
     );
     Some(())
 }

@@ -86,7 +86,7 @@ fn number(by: By) -> u8 {
     }
 }
 
-fn told(answer: Answer) -> Result<u64, u8> {
+fn result_of(answer: Answer) -> Result<u64, u8> {
     if answer.refusal == 0 {
         Ok(answer.weight)
     } else {
@@ -126,7 +126,7 @@ pub fn take(input: &Input) -> u8 {
 pub fn weigh(input: &Input) -> Result<u64, u8> {
     let Input { rules, words, .. } = input;
     // SAFETY: as above.
-    told(unsafe {
+    result_of(unsafe {
         bench_chart_weigh(
             input.is_count,
             rules.as_ptr(),
@@ -164,7 +164,7 @@ pub fn run(input: &Input, steps: usize, settles: bool, edges: &[Edge]) -> Left {
         .map(|edge| edge.is_finished.then_some(edge.weight))
         .collect();
     Left {
-        answer: told(answer),
+        answer: result_of(answer),
         finished: answer.finished,
         full: answer.is_full,
         weights,

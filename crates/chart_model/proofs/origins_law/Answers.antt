@@ -1,5 +1,5 @@
-use Rattle.chart_model.proofs.Grounding.{grounded_reached}
+use Rattle.chart_model.proofs.Founding.{founded_reachable}
 use Rattle.chart_model.proofs.origins_law.Goals as goal
 
 pub returns : goal.returns
-returns c = λ t s d reached. grounded_reached t s reached
+returns c = λ t s d reachable. founded_reachable t s reachable

@@ -5,31 +5,31 @@ use crate::making::{Words, node, rule, word};
 use crate::readings::BLANK;
 use crate::runs::Left;
 use crate::script::Script::{Chart, Run};
+use crate::settings::Inputs;
 use crate::settings::Line::Rows;
-use crate::settings::Over;
 use crate::settings::Rules::{Counts, Empty};
 use crate::settings::Weighed::Sum;
 use crate::theme::Cases::Scripts;
 use crate::theme::Theme;
 use grammars::count::{LINE, ONE};
-use telling::rows;
+use reporting::rows;
 
 // 96 empty rules at 10 nodes and 64 words: 1,024 edges.
-const JUST_FULL: Over = Over(
+const JUST_FULL: Inputs = Inputs(
     Empty(rule!(95, 0, [0; 4], 7)),
     Rows(&[Words(64, word!(0, 9, 100, 3), 0, 1)]),
     Sum,
 );
 
 // One word more.
-const ONE_TOO_MANY: Over = Over(
+const ONE_TOO_MANY: Inputs = Inputs(
     Empty(rule!(95, 0, [0; 4], 7)),
     Rows(&[Words(65, word!(0, 9, 100, 3), 0, 1)]),
     Sum,
 );
 
 // 95 empty rules at 10 nodes and 74 words: 1,024 edges; the last rule makes one more, of the first word.
-const FILLING: Over = Over(
+const FILLING: Inputs = Inputs(
     Empty(rule!(200, 1, [100, 0, 0, 0], 0)),
     Rows(&[
         Words(1, word!(0, 9, 100, 5), 0, 0),
@@ -39,9 +39,9 @@ const FILLING: Over = Over(
 );
 
 // Numbers in a row, without doubt.
-const NUMBERS_20: Over = Over(Counts, Rows(&[Words(20, word!(0, 1, ONE, 0), 1, 0)]), Sum);
+const NUMBERS_20: Inputs = Inputs(Counts, Rows(&[Words(20, word!(0, 1, ONE, 0), 1, 0)]), Sum);
 
-const NUMBERS_31: Over = Over(Counts, Rows(&[Words(31, word!(0, 1, ONE, 0), 1, 0)]), Sum);
+const NUMBERS_31: Inputs = Inputs(Counts, Rows(&[Words(31, word!(0, 1, ONE, 0), 1, 0)]), Sum);
 
 // One word too many makes the chart full when it is opened. `FILLING` gets full at step 74, which is refused and has
 // finished the first word: a full chart still reads it. A line of 31 numbers has more edges than a chart has room for;

@@ -2,7 +2,7 @@
 use crate::texts::Text::{Length, Weight};
 use crate::theme::Cases::Texts;
 use crate::theme::Theme;
-use telling::rows;
+use reporting::rows;
 
 // "Two box, open one" with and without its last line feed, and a word that was heard three times. Of two faults that of the
 // form is reported first, then that of a word.

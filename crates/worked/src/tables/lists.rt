@@ -4,13 +4,13 @@ use crate::looks::RuleLook::{self, Length, Right};
 use crate::looks::WordLook::{Count, End, LastNode, Symbol};
 use crate::making::{Words as Times, rule, word};
 use crate::script::Script;
+use crate::settings::Inputs;
 use crate::settings::Line::Heard;
-use crate::settings::Over;
 use crate::settings::Rules::Ruled;
 use crate::settings::Weighed::Sum;
 use crate::theme::Cases::{KeptBytes, KeptRules, KeptWords, Rules, Scripts, Words};
 use crate::theme::Theme;
-use telling::rows;
+use reporting::rows;
 
 // Any word and any rule.
 macro_rules! between {
@@ -103,7 +103,7 @@ const THEMES: &[Theme] = &[
     Theme(
         "rules",
         Scripts(
-            Over(Ruled(&[of_length!(3)]), Heard(&[]), Sum),
+            Inputs(Ruled(&[of_length!(3)]), Heard(&[]), Sum),
             &[Script::Rules(rows! {
                 "the last symbol of three": Right(0, 2) => Ok(3);
                 "no fourth symbol of three": Right(0, 3) => Err(0);

@@ -1,9 +1,9 @@
 // Cases of readings: the nodes of the lightest derivation, and what becomes of the caller's list.
 use crate::charts::Final::{Nodes, Read};
 use crate::making::{node, phrase};
-use crate::readings::{BLANK, Listed};
+use crate::readings::{BLANK, ReadLook};
 use crate::script::Script::{Chart, ReadOnce};
-use crate::settings::Over;
+use crate::settings::Inputs;
 use crate::settings::Rules::{Counts, Ruled};
 use crate::settings::Weighed::Sum;
 use crate::tables::small::{EMPTIES, ROUND};
@@ -13,7 +13,7 @@ use crate::theme::Cases::Scripts;
 use crate::theme::Theme;
 use chart_model::node::Node;
 use grammars::count::{LINE, PART};
-use telling::rows;
+use reporting::rows;
 
 // The reading of "two box, open one"; the open one has the last four nodes.
 const NODES: &[Node] = &[
@@ -35,7 +35,7 @@ const NODES: &[Node] = &[
 const WRITTEN: &[Theme] = &[Theme(
     "reading",
     Scripts(
-        Over(Counts, TWO_BOXES, Sum),
+        Inputs(Counts, TWO_BOXES, Sum),
         &[
             Chart(
                 &[],
@@ -94,7 +94,7 @@ const IN_ONE_CALL: &[Theme] = &[
                 4,
                 rows! {
                     "round and round":
-                        Listed::Whole(&[node!(Rule, 1, 0, 1), node!(Word, 0, 0, 1)]) => Ok(2);
+                        ReadLook::Whole(&[node!(Rule, 1, 0, 1), node!(Word, 0, 0, 1)]) => Ok(2);
                 },
             )],
         ),
@@ -108,7 +108,7 @@ const IN_ONE_CALL: &[Theme] = &[
                 4,
                 rows! {
                     "two of nothing":
-                        Listed::Whole(&[node!(Rule, 0, 0, 0), node!(Rule, 1, 0, 0), node!(Rule, 1, 0, 0)]) => Ok(3);
+                        ReadLook::Whole(&[node!(Rule, 0, 0, 0), node!(Rule, 1, 0, 0), node!(Rule, 1, 0, 0)]) => Ok(3);
                 },
             )],
         ),
@@ -116,12 +116,12 @@ const IN_ONE_CALL: &[Theme] = &[
     Theme(
         "reading",
         Scripts(
-            Over(Ruled(&[]), LIGHTER_LAST, Sum),
+            Inputs(Ruled(&[]), LIGHTER_LAST, Sum),
             &[ReadOnce(
                 phrase!(9, 0, 1),
                 4,
                 rows! {
-                    "the lighter word, heard last": Listed::Whole(&[node!(Word, 1, 0, 1)]) => Ok(1);
+                    "the lighter word, heard last": ReadLook::Whole(&[node!(Word, 1, 0, 1)]) => Ok(1);
                 },
             )],
         ),
@@ -129,12 +129,12 @@ const IN_ONE_CALL: &[Theme] = &[
     Theme(
         "reading",
         Scripts(
-            Over(Ruled(&[]), LIGHTER_FIRST, Sum),
+            Inputs(Ruled(&[]), LIGHTER_FIRST, Sum),
             &[ReadOnce(
                 phrase!(9, 0, 1),
                 4,
                 rows! {
-                    "the lighter word, heard first": Listed::Whole(&[node!(Word, 0, 0, 1)]) => Ok(1);
+                    "the lighter word, heard first": ReadLook::Whole(&[node!(Word, 0, 0, 1)]) => Ok(1);
                 },
             )],
         ),
@@ -142,12 +142,12 @@ const IN_ONE_CALL: &[Theme] = &[
     Theme(
         "reading",
         Scripts(
-            Over(Ruled(&[]), EQUAL, Sum),
+            Inputs(Ruled(&[]), EQUAL, Sum),
             &[ReadOnce(
                 phrase!(9, 0, 1),
                 4,
                 rows! {
-                    "the first of equal words": Listed::Whole(&[node!(Word, 0, 0, 1)]) => Ok(1);
+                    "the first of equal words": ReadLook::Whole(&[node!(Word, 0, 0, 1)]) => Ok(1);
                 },
             )],
         ),
@@ -155,23 +155,23 @@ const IN_ONE_CALL: &[Theme] = &[
     Theme(
         "read in one call",
         Scripts(
-            Over(Counts, TWO_BOXES, Sum),
+            Inputs(Counts, TWO_BOXES, Sum),
             &[
                 ReadOnce(
                     WHOLE,
                     11,
                     rows! {
-                        "its weight": Listed::Weight => Ok(109);
-                        "its length": Listed::Length => Ok(11);
-                        "its nodes": Listed::Nodes(NODES) => Ok(11);
+                        "its weight": ReadLook::Weight => Ok(109);
+                        "its length": ReadLook::Length => Ok(11);
+                        "its nodes": ReadLook::Nodes(NODES) => Ok(11);
                     },
                 ),
                 ReadOnce(
                     WHOLE,
                     10,
                     rows! {
-                        "one shorter": Listed::Weight => Err(12);
-                        "the first ten": Listed::Nodes(NODES) => Ok(10);
+                        "one shorter": ReadLook::Weight => Err(12);
+                        "the first ten": ReadLook::Nodes(NODES) => Ok(10);
                     },
                 ),
             ],

@@ -2,7 +2,7 @@
 use crate::charts::Final::Weight;
 use crate::charts::Move::{Ask, Step};
 use crate::script::Script::Chart;
-use crate::settings::Over;
+use crate::settings::Inputs;
 use crate::settings::Rules::Counts;
 use crate::settings::Weighed::Sum;
 use crate::tables::two_boxes::TWO_BOXES;
@@ -10,7 +10,7 @@ use crate::texts::Text::Words;
 use crate::theme::Cases::{Scripts, Texts};
 use crate::theme::Theme;
 use grammars::count::{GAP, LINE, NUM, PART};
-use telling::rows;
+use reporting::rows;
 
 // Questions to a chart over "two box, open one", before and after it is settled: 7 comes before 8, and nothing changes by
 // asking. Then texts that are of the form, and texts that are not.
@@ -18,7 +18,7 @@ const THEMES: &[Theme] = &[
     Theme(
         "working",
         Scripts(
-            Over(Counts, TWO_BOXES, Sum),
+            Inputs(Counts, TWO_BOXES, Sum),
             &[Chart(
                 rows! {
                     "the first step": Step => Ok(1);
@@ -38,7 +38,7 @@ const THEMES: &[Theme] = &[
     Theme(
         "settled",
         Scripts(
-            Over(Counts, TWO_BOXES, Sum),
+            Inputs(Counts, TWO_BOXES, Sum),
             &[Chart(
                 &[],
                 rows! {

@@ -3,7 +3,7 @@ use crate::making::{phrase, question};
 use crate::runs::Left::{Asked, Called, Finished, Weight};
 use crate::runs::{Alike, STEP};
 use crate::script::Script::{OneByOne, Run};
-use crate::settings::Over;
+use crate::settings::Inputs;
 use crate::settings::Rules::Counts;
 use crate::settings::Weighed::Sum;
 use crate::tables::two_boxes::TWO_BOXES;
@@ -11,7 +11,7 @@ use crate::theme::Cases::Scripts;
 use crate::theme::Theme;
 use chart::call::{Call, FinalQuestion};
 use grammars::count::{BOX, GAP, LINE, NUM, TWO};
-use telling::rows;
+use reporting::rows;
 
 // A question as a call.
 macro_rules! ask {
@@ -48,7 +48,7 @@ const QUESTIONS: &[FinalQuestion] = &[
 const THEMES: &[Theme] = &[Theme(
     "run",
     Scripts(
-        Over(Counts, TWO_BOXES, Sum),
+        Inputs(Counts, TWO_BOXES, Sum),
         &[
             OneByOne(
                 CALLS,

@@ -3,24 +3,24 @@ use crate::charts::Final::Weight;
 use crate::charts::Move::{Ask, Step};
 use crate::making::{rule, word};
 use crate::script::Script::Chart;
+use crate::settings::Inputs;
 use crate::settings::Line::{Heard, Typed};
-use crate::settings::Over;
 use crate::settings::Rules::{Counts, Ruled};
 use crate::settings::Weighed::Sum;
 use crate::theme::Cases::Scripts;
 use crate::theme::Theme;
 use grammars::count::{BOX, GAP, LINE, ONE, OPEN, TWO};
-use telling::rows;
+use reporting::rows;
 
 // A symbol that derives itself, over one word.
-pub(crate) const ROUND: Over = Over(
+pub(crate) const ROUND: Inputs = Inputs(
     Ruled(&[rule!(5, 1, [5, 0, 0, 0], 0), rule!(5, 1, [9, 0, 0, 0], 7)]),
     Heard(&[word!(0, 1, 9, 5)]),
     Sum,
 );
 
 // A symbol of two empty ones.
-pub(crate) const EMPTIES: Over = Over(
+pub(crate) const EMPTIES: Inputs = Inputs(
     Ruled(&[rule!(5, 2, [6, 6, 0, 0], 1), rule!(6, 0, [0, 0, 0, 0], 2)]),
     Typed(b""),
     Sum,
@@ -33,7 +33,7 @@ const THEMES: &[Theme] = &[
     Theme(
         "no words",
         Scripts(
-            Over(Counts, Heard(&[]), Sum),
+            Inputs(Counts, Heard(&[]), Sum),
             &[Chart(
                 rows! {
                     "a gap of nothing before the first step": Ask(GAP, 0, 0) => Err(8);
@@ -83,7 +83,7 @@ const THEMES: &[Theme] = &[
     Theme(
         "typed",
         Scripts(
-            Over(Counts, Typed(&[TWO, BOX, OPEN, ONE]), Sum),
+            Inputs(Counts, Typed(&[TWO, BOX, OPEN, ONE]), Sum),
             &[Chart(
                 &[],
                 rows! {

@@ -1,25 +1,29 @@
 // Cases of penalties on the stock counts: on one symbol, on several, and up to the greatest mark.
 use crate::looks::RuleLook::{Count, Mark};
 use crate::script::Script::Rules;
-use crate::settings::Over;
-use crate::settings::Rules::{Dearer, ThriceDearer, TwiceDearer};
+use crate::settings::Inputs;
+use crate::settings::Rules::{Penalized, ThricePenalized, TwicePenalized};
 use crate::settings::Weighed::Sum;
 use crate::tables::two_boxes::{TWO_BOXES, WHOLE};
 use crate::theme::Cases::{Scripts, Weights};
 use crate::theme::Theme;
 use grammars::count::{GAP, LINE, PART};
-use telling::rows;
+use reporting::rows;
 
-const TWICE: Over = Over(TwiceDearer((PART, 20), (PART, 5)), TWO_BOXES, Sum);
+const TWICE: Inputs = Inputs(TwicePenalized((PART, 20), (PART, 5)), TWO_BOXES, Sum);
 
-const PAST: Over = Over(TwiceDearer((PART, 65_000), (PART, 65_000)), TWO_BOXES, Sum);
+const PAST: Inputs = Inputs(
+    TwicePenalized((PART, 65_000), (PART, 65_000)),
+    TWO_BOXES,
+    Sum,
+);
 
-const ABOVE: Over = Over(TwiceDearer((PART, 20), (GAP, 5)), TWO_BOXES, Sum);
+const ABOVE: Inputs = Inputs(TwicePenalized((PART, 20), (GAP, 5)), TWO_BOXES, Sum);
 
-const BELOW: Over = Over(TwiceDearer((GAP, 5), (PART, 20)), TWO_BOXES, Sum);
+const BELOW: Inputs = Inputs(TwicePenalized((GAP, 5), (PART, 20)), TWO_BOXES, Sum);
 
-const THREE: Over = Over(
-    ThriceDearer((PART, 20), (GAP, 5), (LINE, 7)),
+const THREE: Inputs = Inputs(
+    ThricePenalized((PART, 20), (GAP, 5), (LINE, 7)),
     TWO_BOXES,
     Sum,
 );
@@ -65,9 +69,9 @@ const THEMES: &[Theme] = &[
         Weights(
             WHOLE,
             rows! {
-                "parts 20": Over(Dearer((PART, 20)), TWO_BOXES, Sum) => Ok(149);
+                "parts 20": Inputs(Penalized((PART, 20)), TWO_BOXES, Sum) => Ok(149);
                 "parts 20, parts 5": TWICE => Ok(159);
-                "parts 25": Over(Dearer((PART, 25)), TWO_BOXES, Sum) => Ok(159);
+                "parts 25": Inputs(Penalized((PART, 25)), TWO_BOXES, Sum) => Ok(159);
                 "parts past 65,535": PAST => Ok(131_172);
                 "parts 20, gaps 5": ABOVE => Ok(154);
                 "gaps 5, parts 20": BELOW => Ok(154);

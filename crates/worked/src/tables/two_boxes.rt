@@ -2,15 +2,15 @@
 use crate::charts::Final::Weight;
 use crate::making::{phrase, word};
 use crate::script::Script::Chart;
+use crate::settings::Inputs;
 use crate::settings::Line::{self, Heard};
-use crate::settings::Over;
-use crate::settings::Rules::{Counts, Dearer};
+use crate::settings::Rules::{Counts, Penalized};
 use crate::settings::Weighed::{Chance, Sum, Worst};
 use crate::theme::Cases::{Scripts, Weights};
 use crate::theme::Theme;
 use chart_model::phrase::Phrase;
 use grammars::count::{BOX, GAP, LINE, NUM, ONE, OPEN, PART, TWO};
-use telling::rows;
+use reporting::rows;
 
 // The words as they were heard.
 pub(crate) const TWO_BOXES: Line = Heard(&[
@@ -30,17 +30,17 @@ const THEMES: &[Theme] = &[
         Weights(
             WHOLE,
             rows! {
-                "doubts added up": Over(Counts, TWO_BOXES, Sum) => Ok(109);
-                "the worst doubt": Over(Counts, TWO_BOXES, Worst) => Ok(40);
-                "the chance": Over(Counts, TWO_BOXES, Chance) => Ok(2_143_914_145);
-                "each part 20 dearer": Over(Dearer((PART, 20)), TWO_BOXES, Sum) => Ok(149);
+                "doubts added up": Inputs(Counts, TWO_BOXES, Sum) => Ok(109);
+                "the worst doubt": Inputs(Counts, TWO_BOXES, Worst) => Ok(40);
+                "the chance": Inputs(Counts, TWO_BOXES, Chance) => Ok(2_143_914_145);
+                "each part 20 dearer": Inputs(Penalized((PART, 20)), TWO_BOXES, Sum) => Ok(149);
             },
         ),
     ),
     Theme(
         "parts",
         Scripts(
-            Over(Counts, TWO_BOXES, Sum),
+            Inputs(Counts, TWO_BOXES, Sum),
             &[Chart(
                 &[],
                 rows! {

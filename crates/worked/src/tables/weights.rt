@@ -2,15 +2,15 @@
 use crate::looks::Code::{Join, Mark};
 use crate::making::{phrase, word};
 use crate::script::Script::Codes;
+use crate::settings::Inputs;
 use crate::settings::Line::{self, Heard};
-use crate::settings::Over;
 use crate::settings::Rules::{Counts, Ruled};
 use crate::settings::Weighed::{Chance, Sum, Worst};
 use crate::tables::two_boxes::WHOLE;
 use crate::theme::Cases::{Scripts, Weights};
 use crate::theme::Theme;
 use grammars::count::{BOX, ONE, OPEN, THREE, TWO};
-use telling::rows;
+use reporting::rows;
 
 // The chances of one half, and of mark 65,535.
 const HALF: u64 = 1_073_741_824;
@@ -42,7 +42,7 @@ const THEMES: &[Theme] = &[
     Theme(
         "chance",
         Scripts(
-            Over(Counts, Heard(&[]), Chance),
+            Inputs(Counts, Heard(&[]), Chance),
             &[Codes(rows! {
                 "mark 0 is certainty": Mark(0) => Ok(2_147_483_648);
                 "mark 32,768 is one half": Mark(32_768) => Ok(HALF);
@@ -55,7 +55,7 @@ const THEMES: &[Theme] = &[
     Theme(
         "sum",
         Scripts(
-            Over(Counts, Heard(&[]), Sum),
+            Inputs(Counts, Heard(&[]), Sum),
             &[Codes(rows! {
                 "two doubts": Join(60, 40) => Ok(100);
                 "the greatest stays": Join(u64::MAX, 1) => Ok(u64::MAX);
@@ -65,7 +65,7 @@ const THEMES: &[Theme] = &[
     Theme(
         "worst",
         Scripts(
-            Over(Counts, Heard(&[]), Worst),
+            Inputs(Counts, Heard(&[]), Worst),
             &[Codes(rows! {
                 "two doubts": Join(60, 40) => Ok(60);
             })],
@@ -76,9 +76,9 @@ const THEMES: &[Theme] = &[
         Weights(
             WHOLE,
             rows! {
-                "doubts added up": Over(Counts, TWICE, Sum) => Ok(31_509);
-                "the worst doubt": Over(Counts, TWICE, Worst) => Ok(17_000);
-                "the chance": Over(Counts, TWICE, Chance) => Ok(1_205_704_163);
+                "doubts added up": Inputs(Counts, TWICE, Sum) => Ok(31_509);
+                "the worst doubt": Inputs(Counts, TWICE, Worst) => Ok(17_000);
+                "the chance": Inputs(Counts, TWICE, Chance) => Ok(1_205_704_163);
             },
         ),
     ),
@@ -87,9 +87,9 @@ const THEMES: &[Theme] = &[
         Weights(
             phrase!(9, 0, 1),
             rows! {
-                "marks 9 and 4": Over(Ruled(&[]), LIGHTER_LAST, Sum) => Ok(4);
-                "marks 4 and 9": Over(Ruled(&[]), LIGHTER_FIRST, Sum) => Ok(4);
-                "mark 4 both times": Over(Ruled(&[]), EQUAL, Sum) => Ok(4);
+                "marks 9 and 4": Inputs(Ruled(&[]), LIGHTER_LAST, Sum) => Ok(4);
+                "marks 4 and 9": Inputs(Ruled(&[]), LIGHTER_FIRST, Sum) => Ok(4);
+                "mark 4 both times": Inputs(Ruled(&[]), EQUAL, Sum) => Ok(4);
             },
         ),
     ),

@@ -4,7 +4,7 @@ use Rattle.chart.specs.Settings as given
 use Rattle.chart.specs.Saying.{whole, ListedSays}
 use Rattle.chart.specs.View.{room}
 use Rattle.chart.specs.Working.{task}
-use Rattle.chart.proofs.Readings.{listed_says}
+use Rattle.chart.proofs.Finding.{listed_says}
 use Rattle.chart.proofs.read.read.Goals as goal
 
 pub returns-clause-says : goal.returns-clause-says

@@ -1,6 +1,6 @@
 use Rattle.std.proofs.Common.{◌∙◌, subst, arith}
 use Rattle.std.proofs.lemmas.Grind.{common_steps}
-use Rattle.chart.specs.Calls.{TellsLightest}
+use Rattle.chart.specs.Calls.{AnswersLightest}
 use Rattle.chart.specs.Settings as given
 use Rattle.chart.specs.Working.{task}
 use Rattle.chart.proofs.Turns.{all_turned}
@@ -13,8 +13,8 @@ loop-call-preserved g c =
     record {
       made = grind (arith, common_steps);
       lightest =
-          all_next (TellsLightest (task c.args.chart.now)) l.calls l.call-index c.make.new.call (omega arith) l.invariant.lightest
-          (subst (λ x. TellsLightest (given.task x) c.make.new.call) l.invariant.setting c.make.ensures.lightest);
+          all_next (AnswersLightest (task c.args.chart.now)) l.calls l.call-index c.make.new.call (omega arith) l.invariant.lightest
+          (subst (λ x. AnswersLightest (given.task x) c.make.new.call) l.invariant.setting c.make.ensures.lightest);
       setting = c.make.ensures.setting ∙ l.invariant.setting;
     }
 

@@ -2,7 +2,7 @@ use Rattle.std.proofs.Common.{Ok, Err, sym, ap, ◌∙◌}
 use Rattle.std.proofs.lemmas.Result.{err_from_is_err_and}
 use Rattle.line_format.specs.declared.fault.FormFault.TheVariants.{TooManyLines, NotOfTheForm}
 use Rattle.line_format.specs.Faults.{form_number}
-use Rattle.line_format.specs.Reading.{Answers, words_read}
+use Rattle.line_format.specs.Parsing.{Answers, words_read}
 use Rattle.line_format.proofs.Answering.{longer_answer, reads_back, reads_only, refused_by}
 use Rattle.line_format.proofs.Gathering.{gathered_more, gathered_bad, gathered_full, gathered_all}
 use Rattle.line_format.proofs.text.read_words.Goals as goal

@@ -1,5 +1,5 @@
 use Rattle.std.proofs.Common.{[], ◌∷◌, refl, arith}
-use Rattle.chart.proofs.Overlay.{wrote_one, wrote_past}
+use Rattle.chart.proofs.Overwriting.{wrote_one, wrote_past}
 use Rattle.chart.proofs.listing.Listing.push.Goals as goal
 
 pub returns-then-self-clause-lists : goal.returns-then-self-clause-lists

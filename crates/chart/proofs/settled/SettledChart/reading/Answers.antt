@@ -3,8 +3,8 @@ use Rattle.std.proofs.lemmas.Result.{err_from_is_err_and}
 use Rattle.chart_model.specs.declared.node.Node.{Node}
 use Rattle.chart.specs.Refusals.{settled_number}
 use Rattle.chart.specs.Settled.{task, chart}
-use Rattle.chart.proofs.Reaching.{sound_of, reading_says}
-use Rattle.chart.proofs.Readings.{refused, all_read, first_read}
+use Rattle.chart.proofs.Reachability.{sound_of, reading_says}
+use Rattle.chart.proofs.Finding.{refused, all_read, first_read}
 use Rattle.chart.proofs.settled.SettledChart.reading.Goals as goal
 
 pub returns-in_err-at : goal.returns-in_err-at
@@ -16,7 +16,7 @@ returns-in_err-at g c =
     let e = err_from_is_err_and c.from_residual.result c.from_residual.ensures.1 in
     let number = settled_number c.in_err-at.field-0.0 in
     let r = refused (task a) (chart a) p before number c.in_err-at.ensures.found in
-    rw (e.1, e.2) (record { answer = r.answer; list = r.list; says = reading_says sound (chart a) a.working.reached a.working.fits a.stopped p before before (Err number) r.list r.answer })
+    rw (e.1, e.2) (record { answer = r.answer; list = r.list; says = reading_says sound (chart a) a.working.reachable a.working.fits a.stopped p before before (Err number) r.list r.answer })
 
 pub returns-in_err-walk : goal.returns-in_err-walk
 returns-in_err-walk g c =
@@ -30,7 +30,7 @@ returns-in_err-walk g c =
     rw (e.1, e.2) (record {
       answer = r.answer;
       list = list _ (search rules);
-      says = reading_says sound (chart a) a.working.reached a.working.fits a.stopped p before _ (Err 12) (list _ (search rules)) r.answer;
+      says = reading_says sound (chart a) a.working.reachable a.working.fits a.stopped p before _ (Err 12) (list _ (search rules)) r.answer;
     })
 
 pub returns : goal.returns
@@ -45,5 +45,5 @@ returns g c =
     record {
       answer = r.answer;
       list = list _ (search rules);
-      says = reading_says sound (chart a) a.working.reached a.working.fits a.stopped p before _ (Ok filled) (list _ (search rules)) r.answer;
+      says = reading_says sound (chart a) a.working.reachable a.working.fits a.stopped p before _ (Ok filled) (list _ (search rules)) r.answer;
     }

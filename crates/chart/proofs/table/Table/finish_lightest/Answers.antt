@@ -1,7 +1,7 @@
 use Rattle.std.proofs.Common.{sym, subst, arith}
 use Rattle.chart_model.specs.Plain.{Chart}
 use Rattle.chart.specs.Charts.{held}
-use Rattle.chart.specs.View.{Named}
+use Rattle.chart.specs.View.{IsFinished}
 use Rattle.chart.proofs.Keeping.{Kept, kept, view_within, found}
 use Rattle.chart.proofs.table.Table.finish_lightest.Goals as goal
 
@@ -24,9 +24,9 @@ invariant_of-self g c =
     let still = subst Kept (sym (rw c.from.ensures at c.finish.ensures.view)) f.kept in
     record { taken = still.fits.taken; room = omega arith; counted = still.counted; orderly = still.orderly }
 
-pub returns-clause-earlier : goal.returns-clause-earlier
-returns-clause-earlier g c =
+pub returns-clause-finished : goal.returns-clause-finished
+returns-clause-finished g c =
     let t = c.args.self.now in
     let lighter = (g.W.Weighing.weights c.args.weighing.now).lighter in
     let f = found lighter (held t) (kept t) _ (sym c.in_ok-lightest.ensures) in
-    subst (λ (d : Chart). Named d c.in_ok-lightest.lightest.at) (sym (rw c.from.ensures at c.finish.ensures.view)) f.named
+    subst (λ (d : Chart). IsFinished d c.in_ok-lightest.lightest.at) (sym (rw c.from.ensures at c.finish.ensures.view)) f.is_finished

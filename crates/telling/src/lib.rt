@@ -1,6 +1,0 @@
-// Table-driven tests: cases, each reported in a line, and counted.
-#![tactic(auto)]
-
-pub mod case;
-pub mod tally;
-pub mod teller;
