@@ -20,7 +20,8 @@ impl<G: Grammar, L: Lattice, W: Weighing> Setting<G, L, W> {
         brings: F,
     )
         requires callable { (t : Bor Table) (n : ℕ) → n < count → F.pre brings t n }
-        requires finished { AllBringFinished (F.post brings) (W.weights self.now.weighing) count table.old }
+        requires finished { AllBringFinished (F.post brings) (W.weights self.now.weighing) count
+            table.old }
         ensures { Brought (F.post brings) (W.weights self.now.weighing) count table.old table.new }
     {
         for n in 0..count {

@@ -32,7 +32,8 @@ pub fn read<G: Grammar + Drop, L: Lattice + Drop, W: Weighing + Drop>(
     ensures answer { by_number reading_number result
         ≡ read_answer (task setting) phrase (length nodes.old) }
     ensures list { nodes.new ≡ read_list (task setting) phrase nodes.old }
-    ensures says { ReadSays (task setting) phrase nodes.old nodes.new (by_number reading_number result) }
+    ensures says { ReadSays (task setting) phrase nodes.old nodes.new
+        (by_number reading_number result) }
 {
     let chart = WorkingChart::open(setting).settle();
     let weight = chart.question(phrase)?;

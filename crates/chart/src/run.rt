@@ -67,7 +67,8 @@ fn open_and_make<G: Grammar, L: Lattice, W: Weighing>(
 ) -> WorkingChart<G, L, W>
     ensures setting { setting_of result ≡ setting }
     ensures made { AllMade (task result) (opened (task result) room) calls.old calls.new }
-    ensures leaves { plain result ≡ after_calls (task result) (opened (task result) room) calls.old }
+    ensures leaves { plain result
+        ≡ after_calls (task result) (opened (task result) room) calls.old }
     ensures lightest { AllLightest (task result) calls.new }
     ensures stands { Stands (task result) (plain result) }
 {

@@ -29,7 +29,8 @@ impl<G: Grammar, L: Lattice, W: Weighing> Setting<G, L, W> {
     // The fundamental rule between the edge just finished and that at a place, if it is finished too.
     fn meet_at(&self, table: &Table, at: usize, finished: Entry) -> Option<Arrival>
         ensures brings { result ≡ met_at (task self.now) finished (held table.now).places at }
-        ensures finished { IsFinished (held table.now) finished.at → BringsFinished (held table.now) result }
+        ensures finished { IsFinished (held table.now) finished.at →
+            BringsFinished (held table.now) result }
     {
         let other = table.finished_entry_at(at)?;
         self.meet(other, finished)

@@ -1,6 +1,7 @@
 // Places of a chart, and the arrivals that fill them and make them lighter.
 ghost use Rattle.std.specs.Prelude.{◌≡◌};
-ghost use Rattle.chart_model.specs.Plain.{arriving, unused, fresh, lightened, finished_place, entry, is_open};
+ghost use Rattle.chart_model.specs.Plain.{arriving, unused, fresh, lightened, finished_place};
+ghost use Rattle.chart_model.specs.Plain.{entry, is_open};
 
 use crate::edge::Edge;
 use crate::origin::Origin;

@@ -18,8 +18,8 @@ pub struct Checked<'a, R: Record> {
 impl<'a, R: Record> Checked<'a, R> {
     /// Checks a list. Refused with `TooMany` for more than `R::MOST` records, else with the first fault and its place.
     pub fn new(records: &'a [R]) -> Result<Self, ListFault<R::Fault>>
-        ensures refused { MatchesListRefusal R.MOST R.Fault.TOO_MANY R.Fault.number R.refusal records.now
-            result }
+        ensures refused { MatchesListRefusal R.MOST R.Fault.TOO_MANY R.Fault.number R.refusal
+            records.now result }
         ensures records { IfOk result (λ checked. checked.records.now ≡ records.now) }
     {
         if records.len() > R::MOST {
@@ -31,8 +31,8 @@ impl<'a, R: Record> Checked<'a, R> {
 
     /// Replaces the list by another that passes the check. Refused as by `new`; the former list stays then.
     pub fn check(&mut self, records: &'a [R]) -> Result<(), ListFault<R::Fault>>
-        ensures refused { MatchesListRefusal R.MOST R.Fault.TOO_MANY R.Fault.number R.refusal records.now
-            result }
+        ensures refused { MatchesListRefusal R.MOST R.Fault.TOO_MANY R.Fault.number R.refusal
+            records.now result }
         ensures records { self.new.records.now
             ≡ elim result [ Ok _ ↦ records.now | Err _ ↦ self.old.records.now ] }
     {

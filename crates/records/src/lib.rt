@@ -38,8 +38,8 @@ pub trait Record: Copy {
 
 /// Checks records in order, however many. Refused with the first fault and the place of its record, from 0.
 pub fn check_records<R: Record>(records: &[R]) -> Result<(), ListFault<R::Fault>>
-    ensures refused { option_map (number_and_place R.Fault.TOO_MANY R.Fault.number) (result_err result)
-        ≡ first_refusal R.refusal 0 records.now }
+    ensures refused { option_map (number_and_place R.Fault.TOO_MANY R.Fault.number)
+        (result_err result) ≡ first_refusal R.refusal 0 records.now }
     ensures accepted { OnOk result (list_all R.within records.now ≡ true) }
 {
     for (at, item) in records.iter().enumerate() {

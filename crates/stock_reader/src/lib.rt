@@ -57,7 +57,8 @@ fn read_lattice(lattice: HeardLattice) -> Result<Parse, ReadingRefusal>
 pub fn read_line(text: &[u8]) -> Result<Parse, Refusal>
     ensures answer { line_by_number refusal_number result ≡ text_parse text.now }
     ensures decided { Decided (λ t. line_by_number refusal_number result ≡ text_parse t) text.now }
-    ensures says { WritesLattice text.now (λ ws. LineSays ws (line_by_number refusal_number result)) }
+    ensures says { WritesLattice text.now
+        (λ ws. LineSays ws (line_by_number refusal_number result)) }
     ensures charted { WritesLattice text.now (λ _. Charted result) }
     ensures form { (number : ℕ) → text_words text.now ≡ Err number → RefusesForm result number }
     ensures words { WritesWords text.now (λ ws. (refusal : ℕ × Option ℕ) →
