@@ -1,4 +1,4 @@
--- What the reading of a line is, and what it says of derivations. Assumes nothing.
+-- What the parse of a line is, and what it says of derivations. Assumes nothing.
 use Rattle.std.proofs.Common.{◌≡◌, ℕ, ◌<◌, ◌≤◌, ◌⊎◌, Bool, true, false, leb, List, [], ◌∷◌, ◌++◌, length, take, drop, None, Some, Ok, Err, Result, sym, refl, ap, ◌∙◌, subst, inl, inr, arith}
 use Rattle.std.proofs.lemmas.Bool.{leb-true}
 use Rattle.grammars.specs.Count.{line}

@@ -44,7 +44,7 @@ line_chart ws = whole (line_task ws)
 abbrev pub most_nodes : ℕ
 most_nodes = 256
 
--- a reading by its fields
+-- a parse by its fields
 abbrev pub WeightAndNodes : Type 0
 WeightAndNodes = ℕ × List Node
 
@@ -55,7 +55,7 @@ weight_and_nodes r = (r.weight, r.nodes.items)
 abbrev pub line_by_number : {E : Type 0} → (E → ℕ) → Result Parse E → Result WeightAndNodes ℕ
 line_by_number number result = result_map_both weight_and_nodes number result
 
--- the reading of this weight and these nodes; 12 if they are too many
+-- the parse of this weight and these nodes; 12 if they are too many
 abbrev pub fitting : ℕ → List Node → Result WeightAndNodes ℕ
 fitting w ns = elim (nat_le (length ns) most_nodes) [ true ↦ Ok (w, ns) | false ↦ Err 12 ]
 
@@ -90,7 +90,7 @@ LineTree ws = TreeOf (line_task ws) (line_phrase ws)
 
 -- what the answer to words that make a lattice says
 pub record LineSays (ws : List Word) (answer : Result WeightAndNodes ℕ) : Type 0 where
-  -- a reading is a derivation of this weight, with these nodes; and no other is lighter
+  -- a parse is a derivation of this weight, with these nodes; and no other is lighter
   pub read : (w : ℕ) (ns : List Node) → answer ≡ Ok (w, ns) →
       (d : LineTree ws) × (tree_weight d ≡ w) × (tree_nodes d ≡ ns) × NoneLighter (line_task ws) (whole_line ws) w
   -- 12: the lightest derivation has too many nodes

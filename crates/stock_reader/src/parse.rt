@@ -1,4 +1,4 @@
-// Readings of lines, and how they are printed.
+// Parses of lines, readings with their weights, and how they are printed.
 use arrayvec::ArrayVec;
 use chart_model::node::Node;
 use std::fmt;

@@ -1,4 +1,4 @@
-// Tests of texts, of their readings, and of what is printed.
+// Tests of texts, of their parses, and of what is printed.
 use super::*;
 use chart_model::node::Kind;
 use records::numbered::{Numbered, Printed};
