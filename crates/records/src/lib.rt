@@ -11,6 +11,8 @@ ghost use Rattle.records.specs.Faults.{number_and_place};
 pub mod checked;
 pub mod fault;
 pub mod numbered;
+#[cfg(test)]
+mod tests;
 
 use fault::{ListFault, RecordFault};
 
@@ -36,11 +38,45 @@ pub trait Record: Copy {
         ensures accepted { OnOk result (within self ≡ true) };
 }
 
-/// Checks records in order, however many. Refused with the first fault and the place of its record, from 0.
-pub fn check_records<R: Record>(records: &[R]) -> Result<(), ListFault<R::Fault>>
-    ensures refused { option_map (number_and_place R.Fault.TOO_MANY R.Fault.number)
-        (result_err result) ≡ first_refusal R.refusal 0 records.now }
-    ensures accepted { OnOk result (list_all R.within records.now ≡ true) }
+/// What can be checked by itself, whatever its fault is and whether or not lists of it have a limit. Each `Record` can.
+pub trait Checkable: Copy {
+    /// Why it is refused.
+    type Fault;
+
+    /// The number of a fault.
+    ghost number: { Self.Fault → ℕ };
+
+    /// The number by which it is refused; none where it is accepted.
+    ghost refusal: { Self → Option ℕ };
+
+    /// What it keeps to if it is accepted.
+    ghost within: { Self → Bool };
+
+    /// Accepts it, or refuses it with its fault.
+    fn check(self) -> Result<(), Self::Fault>
+        ensures refused { option_map number (result_err result) ≡ refusal self }
+        ensures accepted { OnOk result (within self ≡ true) };
+}
+
+impl<R: Record> Checkable for R {
+    type Fault = R::Fault;
+
+    ghost number = { R.Fault.number };
+
+    ghost refusal = { R.refusal };
+
+    ghost within = { R.within };
+
+    fn check(self) -> Result<(), R::Fault> {
+        Record::check(self)
+    }
+}
+
+/// Checks items in order, however many. Refused with the first fault and the place of its item, from 0.
+pub fn check_records<C: Checkable>(records: &[C]) -> Result<(), ListFault<C::Fault>>
+    ensures refused { (too_many : ℕ) → option_map (number_and_place too_many C.number)
+        (result_err result) ≡ first_refusal C.refusal 0 records.now }
+    ensures accepted { OnOk result (list_all C.within records.now ≡ true) }
 {
     for (at, item) in records.iter().enumerate() {
         item.check().map_err(|fault| ListFault::At { at, fault })?;
