@@ -70,9 +70,11 @@ impl Places {
         ensures place { result ≡ place_of edge (view self.now).places }
         ensures within { IfSome result (λ at. at < self.now.taken) }
     {
-        self.taken_places()
-            .iter()
-            .position(|place| place.edge == edge)
+        self.taken_places().iter().position(|place| {
+            // Copied first, an edge is compared at once, and not field by field.
+            let found = place.edge;
+            found == edge
+        })
     }
 
     // The head of the agenda: the lightest open edge; ties go to the lower number.
