@@ -1,9 +1,10 @@
 // Why texts are refused, by the stage that refuses them.
 ghost use Rattle.std.specs.Prelude.{◌≡◌};
 ghost use Rattle.stock_reader.specs.declared.refusal.Refusal.TheVariants.{Form, Lattice, Chart};
+ghost use Rattle.chart.specs.declared.refusal.ReadingRefusal.TheVariants.{Unanswered};
 ghost use Rattle.stock_reader.specs.Refusals.{refusal_number};
 
-use chart::refusal::ReadingRefusal;
+use chart::refusal::{ReadingRefusal, SettledRefusal};
 use lattice::fault::LatticeFault;
 use line_format::fault::FormFault;
 use records::numbered::Numbered;
@@ -52,5 +53,13 @@ impl From<ReadingRefusal> for Refusal {
 
     fn from(refusal: ReadingRefusal) -> Refusal {
         Refusal::Chart(refusal)
+    }
+}
+
+impl From<SettledRefusal> for Refusal {
+    ghost from_gives = { λ refusal r. r ≡ Chart (Unanswered refusal) };
+
+    fn from(refusal: SettledRefusal) -> Refusal {
+        Refusal::Chart(ReadingRefusal::Unanswered(refusal))
     }
 }
