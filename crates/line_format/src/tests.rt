@@ -34,6 +34,7 @@ fn not_of_the_form(rt: HostRuntime) {
     let texts = [
         "\n",
         "0 1 2 3\n\n",
+        "1 2 3 4\n1 2 3\n",
         "0  1 2 3\n",
         " 0 1 2 3\n",
         "0 1 2 3 \n",
