@@ -50,7 +50,7 @@ impl Numbered for StepRefusal {
     ghost number = { step_number };
 
     fn number(self) -> u8 {
-        self as u8
+        self as u8 // 10 or 11
     }
 }
 
@@ -58,7 +58,7 @@ impl Numbered for QuestionRefusal {
     ghost number = { question_number };
 
     fn number(self) -> u8 {
-        self as u8
+        self as u8 // 7 or 8
     }
 }
 
@@ -66,7 +66,7 @@ impl Numbered for SettledRefusal {
     ghost number = { settled_number };
 
     fn number(self) -> u8 {
-        self as u8
+        self as u8 // 7, 9 or 10
     }
 }
 
