@@ -1,5 +1,5 @@
 -- The laws of `Chance`: a product of chances is at most either factor, and monotone in both. Assumes nothing.
-use Rattle.std.specs.Prelude.{ℕ, ◌≤◌, min}
+use Rattle.std.specs.Prelude.{ℕ, ◌/◌, ◌≤◌, min}
 use Rattle.std.proofs.Common.{mul-le-mul, le_refl, arith}
 use Rattle.std.proofs.lemmas.Bool.Decides.{nat_tests}
 use Rattle.weighing.specs.Laws.{Lawful}
@@ -11,6 +11,10 @@ min_below a = omega arith
 min_grows : (a b : ℕ) → a ≤ b → min a certain ≤ min b certain
 min_grows a b h = omega arith
 
+-- division by certainty is monotone
+quotient_grows : {m n : ℕ} → m ≤ n → m / certain ≤ n / certain
+quotient_grows {m} {n} h = omega (arith, h)
+
 -- a product is at most its left factor; then the right
 join_below_left : (a b : ℕ) → chance_join a b ≤ min a certain
 join_below_left a b = omega (arith, mul-le-mul (le_refl (min a certain)) (min_below b))
@@ -19,7 +23,7 @@ join_below_right : (a b : ℕ) → chance_join a b ≤ min b certain
 join_below_right a b = omega (arith, mul-le-mul (min_below a) (le_refl (min b certain)))
 
 join_grows : (a b c d : ℕ) → a ≤ b → c ≤ d → chance_join a c ≤ chance_join b d
-join_grows a b c d first second = omega (arith, mul-le-mul (min_grows a b first) (min_grows c d second))
+join_grows a b c d first second = quotient_grows (mul-le-mul (min_grows a b first) (min_grows c d second))
 
 pub chance_lawful : Lawful chance_weights
 chance_lawful =
